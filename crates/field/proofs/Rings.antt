@@ -13,10 +13,6 @@ module _ {R : Ring} (laws : Laws R) where
   pub plus-swap : (a b c : Member) → a ⊕ (b ⊕ c) ≡ b ⊕ (a ⊕ c)
   plus-swap a b c = sym (laws .plus-assoc a b c) ∙ ap (λ x. x ⊕ c) (laws .plus-comm a b) ∙ laws .plus-assoc b a c
 
-  pub minus-back : (a b : Member) → a ⊕ neg b ⊕ b ≡ a
-  minus-back a b =
-      laws .plus-assoc a (neg b) b ∙ ap (λ x. a ⊕ x) (laws .plus-comm (neg b) b ∙ laws .plus-neg b) ∙ laws .plus-zero a
-
   -- what equals its own double is zero
   pub plus-same : (a : Member) → a ⊕ a ≡ a → a ≡ zero
   plus-same a e =
@@ -33,11 +29,6 @@ module _ {R : Ring} (laws : Laws R) where
 
   pub plus-times : (a b c : Member) → (a ⊕ b) ⊗ c ≡ a ⊗ c ⊕ b ⊗ c
   plus-times a b c = laws .times-comm (a ⊕ b) c ∙ laws .times-plus c a b ∙ ap₂ _⊕_ (laws .times-comm c a) (laws .times-comm c b)
-
-  -- k taken out of a sum
-  pub take-out : (a b c k : Member) → a ⊗ k ⊗ b ⊕ k ⊗ c ≡ k ⊗ (a ⊗ b ⊕ c)
-  take-out a b c k =
-      ap (λ x. x ⊕ k ⊗ c) (ap (λ x. x ⊗ b) (laws .times-comm a k) ∙ laws .times-assoc k a b) ∙ sym (laws .times-plus k (a ⊗ b) c)
 
   -- the only one that b needs to be zero
   pub neg-is : (a b : Member) → a ⊕ b ≡ zero → b ≡ neg a

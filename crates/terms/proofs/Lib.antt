@@ -1,0 +1,4 @@
+pub mod Edits
+pub mod Places
+pub mod Merges
+pub mod Values

@@ -1,0 +1,7 @@
+pub mod Orders
+pub mod Compacts
+pub mod Adds
+pub mod Worths
+pub mod Rises
+pub mod Seeks
+pub mod Evaluates

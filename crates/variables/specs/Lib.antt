@@ -1,0 +1,10 @@
+pub mod Order
+pub mod Questions
+pub mod Refusals
+pub mod Worth
+pub mod Terms
+pub mod Compact
+pub mod Locate
+pub mod Merge
+pub mod Evaluate
+pub mod Laws
