@@ -1,3 +1,5 @@
+#![tactic(auto)]
+
 // Reads a run of wall-thickness readings, a number of micrometres to a line, and prints the smoothing sum of each window of three: the
 // linear combination and what it is worth, over p31. Then it does the same over gf8 for the bytes of the log.
 use field::Field;

@@ -1,3 +1,5 @@
+#![tactic(auto)]
+
 // Answers operations on lists of terms: it reads one a line, FIELD;OP;ARG;LEFT;RIGHT, and writes an answer for each.
 mod answer;
 mod fault;

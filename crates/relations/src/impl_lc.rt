@@ -76,14 +76,14 @@ impl<'a, F: Field> LinearCombination<'a, F> {
     }
 
     pub fn negate_in_place(&mut self)
-        ensures { Changes (negated model (listed self.old)) self.old self.new }
+        ensures { Changes (negated F.model (listed self.old)) self.old self.new }
     {
         let n = self.in_use();
         terms::negate(&mut self.terms[0..n]);
     }
 
     pub fn mul_assign(&mut self, scalar: F)
-        ensures { Changes (scaled model scalar (listed self.old)) self.old self.new }
+        ensures { Changes (scaled F.model scalar (listed self.old)) self.old self.new }
     {
         let n = self.in_use();
         terms::scale(&mut self.terms[0..n], scalar);
@@ -91,7 +91,7 @@ impl<'a, F: Field> LinearCombination<'a, F> {
 
     // Puts terms of one variable together, rising by variable. The places that it frees hold zero times Zero.
     pub fn compactify(&mut self)
-        ensures { Frees model (compact.compactify model (listed self.old)) self.old self.new }
+        ensures { Frees F.model (compact.compactify F.model (listed self.old)) self.old self.new }
     {
         let n = self.in_use();
         self.len = terms::compactify(&mut self.terms[0..n]);
@@ -106,7 +106,7 @@ impl<'a, F: Field> LinearCombination<'a, F> {
 
     // Adds a term: where its variable is found that gains the number, and else it is inserted.
     pub fn add_term(&mut self, term: Term<F>) -> Result<(), Refusal>
-        ensures { Becomes (added model term (listed self.old)) self.old self.new result }
+        ensures { Becomes (added F.model term (listed self.old)) self.old self.new result }
     {
         match self.get_var_loc(term.variable) {
             Ok(at) => {
@@ -118,7 +118,7 @@ impl<'a, F: Field> LinearCombination<'a, F> {
     }
 
     pub fn sub_term(&mut self, term: Term<F>) -> Result<(), Refusal>
-        ensures { Becomes (added model (opposite model term) (listed self.old)) self.old self.new result }
+        ensures { Becomes (added F.model (opposite F.model term) (listed self.old)) self.old self.new result }
     {
         self.add_term(Term {
             number: term.number.negative(),
@@ -127,13 +127,13 @@ impl<'a, F: Field> LinearCombination<'a, F> {
     }
 
     pub fn add_variable(&mut self, variable: Variable) -> Result<(), Refusal>
-        ensures { Becomes (added model (once model variable) (listed self.old)) self.old self.new result }
+        ensures { Becomes (added F.model (once F.model variable) (listed self.old)) self.old self.new result }
     {
         self.add_term(Term::from(variable))
     }
 
     pub fn sub_variable(&mut self, variable: Variable) -> Result<(), Refusal>
-        ensures { Becomes (added model (opposite model (once model variable)) (listed self.old)) self.old self.new result }
+        ensures { Becomes (added F.model (opposite F.model (once F.model variable)) (listed self.old)) self.old self.new result }
     {
         self.sub_term(Term::from(variable))
     }
@@ -165,21 +165,21 @@ impl<'a, F: Field> LinearCombination<'a, F> {
 
     // The list becomes one times a variable.
     pub fn assign_variable(&mut self, variable: Variable) -> Result<(), Refusal>
-        ensures { Becomes (once model variable ∷ []) self.old self.new result }
+        ensures { Becomes (once F.model variable ∷ []) self.old self.new result }
     {
         self.assign_term(Term::from(variable))
     }
 
     // The list becomes `left` plus `right`.
     pub fn assign_sum(&mut self, left: &[Term<F>], right: &[Term<F>]) -> Result<(), Refusal>
-        ensures { Becomes (merged_sum model left.now right.now) self.old self.new result }
+        ensures { Becomes (merged_sum F.model left.now right.now) self.old self.new result }
     {
         self.assign_merge(&Plus {}, left, right)
     }
 
     // The list becomes `left` minus `right`.
     pub fn assign_difference(&mut self, left: &[Term<F>], right: &[Term<F>]) -> Result<(), Refusal>
-        ensures { Becomes (merged_difference model left.now right.now) self.old self.new result }
+        ensures { Becomes (merged_difference F.model left.now right.now) self.old self.new result }
     {
         self.assign_merge(&Minus {}, left, right)
     }
@@ -191,7 +191,7 @@ impl<'a, F: Field> LinearCombination<'a, F> {
         by: F,
         right: &[Term<F>],
     ) -> Result<(), Refusal>
-        ensures { Becomes (merged_sum_scaled model by left.now right.now) self.old self.new result }
+        ensures { Becomes (merged_sum_scaled F.model by left.now right.now) self.old self.new result }
     {
         self.assign_merge(&PlusScaled { by }, left, right)
     }
@@ -203,14 +203,14 @@ impl<'a, F: Field> LinearCombination<'a, F> {
         by: F,
         right: &[Term<F>],
     ) -> Result<(), Refusal>
-        ensures { Becomes (merged_difference_scaled model by left.now right.now) self.old self.new result }
+        ensures { Becomes (merged_difference_scaled F.model by left.now right.now) self.old self.new result }
     {
         self.assign_sum_scaled(left, by.negative(), right)
     }
 
     // What the list is worth, or none where a term names a symbol or a value that is not kept.
     pub fn worth(&self, instances: &[F], witnesses: &[F]) -> Option<F>
-        ensures { result ≡ evaluated model (read model instances.now witnesses.now []) (listed self.now) }
+        ensures { result ≡ evaluated F.model (read F.model instances.now witnesses.now []) (listed self.now) }
     {
         terms::evaluate(self.terms(), instances, witnesses)
     }
@@ -225,7 +225,7 @@ impl<'a, F: Field> LinearCombination<'a, F> {
 
     fn gain(&mut self, at: usize, number: F)
         requires { at < length (listed self.old) }
-        ensures { Changes (gained model number at (listed self.old)) self.old self.new }
+        ensures { Changes (gained F.model number at (listed self.old)) self.old self.new }
     {
         let n = self.in_use();
         terms::gain(&mut self.terms[0..n], at, number);

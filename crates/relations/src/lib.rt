@@ -1,3 +1,5 @@
+#![tactic(auto)]
+
 // Linear combinations over lent places: variables, terms, the list under work, and what is proved of lists. The names follow module r1cs
 // of ark-relations.
 mod impl_lc;

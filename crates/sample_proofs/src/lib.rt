@@ -1,3 +1,5 @@
+#![tactic(auto)]
+
 // The worked samples, as one theorem about the definitions.
 ghost use Rattle.sample_proofs.specs.Samples.{Samples};
 

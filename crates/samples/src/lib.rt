@@ -1,3 +1,5 @@
+#![tactic(auto)]
+
 // Worked samples and boundaries of the fields and of lists under work, as tests. The products and sums of gf8 are those of FIPS 197,
 // sections 4.1 and 4.2.
 

@@ -1,3 +1,5 @@
+#![tactic(auto)]
+
 // Smoothing sums: each window of a run of readings as a linear combination, and what it is worth.
 ghost use Rattle.std.specs.Prelude.{◌≡◌, ◌+◌, ◌≤◌, ◌++◌, length, take, drop, Some, Ok};
 ghost use Rattle.variables.specs.Refusals.{answered};
@@ -14,8 +16,8 @@ pub fn smooth<F: Field>(
     width: usize,
     places: &mut [Term<F>],
 ) -> Result<Option<F>, Refusal>
-    ensures does { smoothed model readings.now first width places.old ≡ record { answer = answered result; places = places.new } }
-    ensures sums { (v : F) → result ≡ Ok (Some v) → model.stands v ≡ total model (take width (drop first readings.now)) }
+    ensures does { smoothed F.model readings.now first width places.old ≡ record { answer = answered result; places = places.new } }
+    ensures sums { (v : F) → result ≡ Ok (Some v) → F.model.stands v ≡ total F.model (take width (drop first readings.now)) }
 {
     if first > readings.len() || width > readings.len() - first {
         return Ok(None);
@@ -34,7 +36,7 @@ fn gather<F: Field>(
 ) -> Result<Option<F>, Refusal>
     requires fits { first + width ≤ length readings.now }
     requires room { width ≤ length places.old }
-    ensures { gathered model readings.now first width places.old ≡ record { answer = answered result; places = places.new } }
+    ensures { gathered F.model readings.now first width places.old ≡ record { answer = answered result; places = places.new } }
 {
     let mut list = LinearCombination::new(places);
     for i in 0..width {

@@ -1,3 +1,5 @@
+#![tactic(auto)]
+
 // Lists of terms in lent places: the functions that a list under work hands its places on to.
 ghost use Rattle.std.specs.Prelude.{◌≡◌, ◌+◌, ◌-◌, ◌<◌, ◌≤◌, [], ◌++◌, length, take, drop, replicate};
 ghost use Rattle.std.specs.List.{insert, slice_get};
@@ -22,7 +24,7 @@ pub use combine::{Combine, Minus, Plus, PlusScaled};
 
 // Every number negated.
 pub fn negate<F: Field>(terms: &mut [Term<F>])
-    ensures { terms.new ≡ negated model terms.old }
+    ensures { terms.new ≡ negated F.model terms.old }
 {
     for t in terms.iter_mut() {
         t.number = t.number.negative();
@@ -31,7 +33,7 @@ pub fn negate<F: Field>(terms: &mut [Term<F>])
 
 // Every number multiplied by `scalar`.
 pub fn scale<F: Field>(terms: &mut [Term<F>], scalar: F)
-    ensures { terms.new ≡ scaled model scalar terms.old }
+    ensures { terms.new ≡ scaled F.model scalar terms.old }
 {
     for t in terms.iter_mut() {
         t.number = t.number.product(scalar);
@@ -40,7 +42,7 @@ pub fn scale<F: Field>(terms: &mut [Term<F>], scalar: F)
 
 // Zero times Zero in every place.
 fn clear<F: Field>(terms: &mut [Term<F>])
-    ensures { terms.new ≡ replicate (length terms.old) (nothing model) }
+    ensures { terms.new ≡ replicate (length terms.old) (nothing F.model) }
 {
     for i in 0..terms.len() {
         terms[i] = Term {
@@ -92,7 +94,7 @@ pub fn get_var_loc<F: Field>(terms: &[Term<F>], variable: Variable) -> Result<us
 // The term at `at` gains the number.
 pub fn gain<F: Field>(terms: &mut [Term<F>], at: usize, number: F)
     requires { at < length terms.old }
-    ensures { terms.new ≡ gained model number at terms.old }
+    ensures { terms.new ≡ gained F.model number at terms.old }
 {
     let t = terms[at];
     terms[at] = Term {
@@ -119,7 +121,7 @@ fn place<F: Field>(terms: &mut [Term<F>], len: usize, term: Term<F>) -> usize
     requires room { len < length terms.old }
     requires rising { Rises (take len terms.old) }
     ensures len { result ≤ len + 1 }
-    ensures front { take result terms.new ≡ placed model term (take len terms.old) }
+    ensures front { take result terms.new ≡ placed F.model term (take len terms.old) }
     ensures rest { drop (len + 1) terms.new ≡ drop (len + 1) terms.old }
 {
     let mut carry = term;
@@ -144,7 +146,7 @@ fn place<F: Field>(terms: &mut [Term<F>], len: usize, term: Term<F>) -> usize
 // Places all terms in turn, and says how many there are then.
 fn place_all<F: Field>(terms: &mut [Term<F>]) -> usize
     ensures len { result ≤ length terms.old }
-    ensures front { take result terms.new ≡ compact.compactify model terms.old }
+    ensures front { take result terms.new ≡ compact.compactify F.model terms.old }
 {
     let mut len = 0;
     for i in 0..terms.len() {
@@ -156,8 +158,8 @@ fn place_all<F: Field>(terms: &mut [Term<F>]) -> usize
 
 // Places all terms in turn, clears the places that are left over, and says how many terms there are.
 pub fn compactify<F: Field>(terms: &mut [Term<F>]) -> usize
-    ensures len { result ≡ length (compact.compactify model terms.old) }
-    ensures after { terms.new ≡ compact.compactify model terms.old ++ replicate (length terms.old - result) (nothing model) }
+    ensures len { result ≡ length (compact.compactify F.model terms.old) }
+    ensures after { terms.new ≡ compact.compactify F.model terms.old ++ replicate (length terms.old - result) (nothing F.model) }
 {
     let len = place_all(terms);
     let end = terms.len();
@@ -266,7 +268,7 @@ fn kept<F: Field>(values: &[F], i: usize) -> Option<F>
 
 // The value of a variable that is no symbol, where it is kept.
 fn read<F: Field>(variable: Variable, instances: &[F], witnesses: &[F]) -> Option<F>
-    ensures { result ≡ values.read model instances.now witnesses.now [] variable }
+    ensures { result ≡ values.read F.model instances.now witnesses.now [] variable }
 {
     match variable {
         Variable::Zero => Some(F::zero()),
@@ -279,7 +281,7 @@ fn read<F: Field>(variable: Variable, instances: &[F], witnesses: &[F]) -> Optio
 
 // What a list is worth, or none where a term names a symbol or a value that is not kept.
 pub fn evaluate<F: Field>(terms: &[Term<F>], instances: &[F], witnesses: &[F]) -> Option<F>
-    ensures { result ≡ evaluated model (values.read model instances.now witnesses.now []) terms.now }
+    ensures { result ≡ evaluated F.model (values.read F.model instances.now witnesses.now []) terms.now }
 {
     let mut sum = F::zero();
     for t in terms {

@@ -1,3 +1,5 @@
+#![tactic(auto)]
+
 // Variables, terms and lists of terms: the types, and the definitions and laws that everything above is promised with.
 ghost use Rattle.std.specs.Prelude.{◌≡◌};
 ghost use Rattle.variables.specs.Order.{below, Ordered};
@@ -129,19 +131,19 @@ pub fn variables_are_ordered() -> u8
 }
 
 pub fn compactify_keeps<F: Field>() -> u8
-    ensures { Compacts model }
+    ensures { Compacts F.model }
 {
     0
 }
 
 pub fn lists_are_worth<F: Field>() -> u8
-    ensures { ListsWorth model }
+    ensures { ListsWorth F.model }
 {
     0
 }
 
 pub fn adding_places<F: Field>() -> u8
-    ensures { Adds model }
+    ensures { Adds F.model }
 {
     0
 }
@@ -159,7 +161,7 @@ pub fn seeking_finds<F: Field>() -> u8
 }
 
 pub fn evaluation_stands<F: Field>() -> u8
-    ensures { Evaluates model }
+    ensures { Evaluates F.model }
 {
     0
 }

@@ -18,17 +18,17 @@ loop-i-preserved g c =
     let lc = c.new-list.result in
     let long = ap length (all_held m lc.len lc.terms.now [] c.args.places.now c.new-list.ensures.holds) in
     let room = c.requires.room in (
-      c.add-variable.ensures.place ∙ c.loop-i.invariant.0,
-      ap (λ (o : Outcome _). o.held) (window_more m c.args.first c.loop-i.i lc.terms.now (held c.loop-i.list) _ (omega arith) c.loop-i.invariant.1 c.in-ok-add-variable.ensures.does),
+      c.add_variable.ensures.place ∙ c.loop-i.invariant.0,
+      ap (λ (o : Outcome _). o.held) (window_more m c.args.first c.loop-i.i lc.terms.now (held c.loop-i.list) _ (omega arith) c.loop-i.invariant.1 c.in_ok-add_variable.ensures.does),
     )
 
-pub returns-in-err-add-variable : goal.returns-in-err-add-variable
-returns-in-err-add-variable g c =
+pub returns-in_err-add_variable : goal.returns-in_err-add_variable
+returns-in_err-add_variable g c =
     let m = g.F.Field.model in
     let lc = c.new-list.result in
     let long = ap length (all_held m lc.len lc.terms.now [] c.args.places.now c.new-list.ensures.holds) in
     let room = c.requires.room in
-    not_refused m _ _ _ (window_more m c.args.first c.loop-i.i lc.terms.now (held c.loop-i.list) _ (omega arith) c.loop-i.invariant.1 c.in-err-add-variable.ensures.does)
+    not_refused m _ _ _ (window_more m c.args.first c.loop-i.i lc.terms.now (held c.loop-i.list) _ (omega arith) c.loop-i.invariant.1 c.in_err-add_variable.ensures.does)
 
 pub returns : goal.returns
 returns g c =

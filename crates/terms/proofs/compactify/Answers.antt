@@ -6,10 +6,10 @@ use Rattle.terms.proofs.compactify.Goals as goal
 
 pub returns : goal.returns
 returns g c =
-    let last = c.place-all-len.new.terms in
-    let r = c.place-all-len.result in
-    let long = c.place-all-len.auto.terms in
-    let e = c.place-all-len.ensures in
+    let last = c.place_all-len.new.terms in
+    let r = c.place_all-len.result in
+    let long = c.place_all-len.auto.terms in
+    let e = c.place_all-len.ensures in
     let cleared : c.clear.new.terms ≡ replicate (length c.args.terms.now - r) (nothing g.F.Field.model) =
     c.clear.ensures ∙ ap (λ n. replicate n (nothing g.F.Field.model)) (simp (length-take, length-drop) (omega arith)) in
     record {

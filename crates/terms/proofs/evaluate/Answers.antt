@@ -8,11 +8,11 @@ loop-t-init g c =
     let m = g.F.Field.model in
     ap (λ s. evaluated_from m (read m c.args.instances.now c.args.witnesses.now []) (Some s) c.args.terms.now) c.zero-sum.ensures
 
-pub returns-in-err-value : goal.returns-in-err-value
-returns-in-err-value g c =
+pub returns-in_err-value : goal.returns-in_err-value
+returns-in_err-value g c =
     let m = g.F.Field.model in
-    c.from-residual.ensures
-    ∙ sym (evaluated_stops c.args.terms.now c.loop-t.t-index m (read m c.args.instances.now c.args.witnesses.now []) c.loop-t.sum c.t-item.result c.loop-t-test.true c.t-item.is (sym c.read.ensures ∙ c.in-err-value.was))
+    c.from_residual.ensures
+    ∙ sym (evaluated_stops c.args.terms.now c.loop-t.t-index m (read m c.args.instances.now c.args.witnesses.now []) c.loop-t.sum c.t-item.result c.loop-t-test.true c.t-item.is (sym c.read.ensures ∙ c.in_err-value.was))
     ∙ c.loop-t.invariant
 
 pub loop-t-preserved : goal.loop-t-preserved
@@ -20,7 +20,7 @@ loop-t-preserved g c =
     let m = g.F.Field.model in
     let at = read m c.args.instances.now c.args.witnesses.now [] in
     ap (λ s. evaluated_from m at (Some s) (drop (c.loop-t.t-index + 1) c.args.terms.now)) (c.sum-sum.ensures ∙ ap (m.plus c.loop-t.sum) c.product.ensures)
-    ∙ sym (evaluated_more c.args.terms.now c.loop-t.t-index m at c.loop-t.sum c.t-item.result c.loop-t-test.true c.t-item.is c.in-ok-value.value (sym c.read.ensures ∙ c.in-ok-value.was))
+    ∙ sym (evaluated_more c.args.terms.now c.loop-t.t-index m at c.loop-t.sum c.t-item.result c.loop-t-test.true c.t-item.is c.in_ok-value.value (sym c.read.ensures ∙ c.in_ok-value.was))
     ∙ c.loop-t.invariant
 
 pub returns : goal.returns

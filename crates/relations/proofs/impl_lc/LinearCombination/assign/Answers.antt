@@ -12,5 +12,5 @@ returns g c =
     let lc = c.args.self.now in
     record {
       place = refl;
-      does = put_fits c.args.list.now c.copy-from-slice.new.self lc.len (length c.args.list.now) lc.terms.now refl c.if-n-self.false c.copy-from-slice.ensures.after;
+      does = put_fits c.args.list.now c.copy_from_slice.new.self lc.len (length c.args.list.now) lc.terms.now refl c.if-n-self.false c.copy_from_slice.ensures.after;
     }

@@ -9,7 +9,7 @@ returns-then-n-self g c =
     let w = c.args.with.now in
     let push = g.C.Combine.pushing w in
     let combine = g.C.Combine.combining w in
-    record { place = refl; does = put_short (merged push combine c.args.left.now c.args.right.now) lc.len lc.terms.now (omega (arith, c.merged-len-n.ensures push combine)) }
+    record { place = refl; does = put_short (merged push combine c.args.left.now c.args.right.now) lc.len lc.terms.now (omega (arith, c.merged_len-n.ensures push combine)) }
 
 pub returns : goal.returns
 returns g c =
@@ -19,5 +19,5 @@ returns g c =
     let combine = g.C.Combine.combining w in
     record {
       place = refl;
-      does = put_fits (merged push combine c.args.left.now c.args.right.now) c.merge.new.places lc.len c.merged-len-n.result lc.terms.now (c.merged-len-n.ensures push combine) c.if-n-self.false c.merge.ensures;
+      does = put_fits (merged push combine c.args.left.now c.args.right.now) c.merge.new.places lc.len c.merged_len-n.result lc.terms.now (c.merged_len-n.ensures push combine) c.if-n-self.false c.merge.ensures;
     }

@@ -6,10 +6,10 @@ use Rattle.relations.proofs.impl_lc.LinearCombination.gain.Goals as goal
 pub gain-requires : goal.gain-requires
 gain-requires g c =
     let lc = c.args.self.now in
-    let e = ap length (part lc.len c.in-use-n.result lc.terms.now c.in-use-n.ensures) in
+    let e = ap length (part lc.len c.in_use-n.result lc.terms.now c.in_use-n.ensures) in
     omega (arith, c.requires)
 
 pub returns : goal.returns
 returns g c =
     let lc = c.args.self.now in
-    record { place = refl; holds = held_by (gained g.F.Field.model c.args.number c.args.at) lc.len c.in-use-n.result lc.terms.now c.gain.new.terms c.in-use-n.ensures c.gain.auto.terms c.gain.ensures }
+    record { place = refl; holds = held_by (gained g.F.Field.model c.args.number c.args.at) lc.len c.in_use-n.result lc.terms.now c.gain.new.terms c.in_use-n.ensures c.gain.auto.terms c.gain.ensures }

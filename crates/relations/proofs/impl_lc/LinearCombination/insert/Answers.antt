@@ -9,19 +9,19 @@ returns-then-n-self g c =
     let lc = c.args.self.now in
     let xs = lc.terms.now in
     let list = take lc.len xs in
-    let p = length_part lc.len c.in-use-n.result xs c.in-use-n.ensures in
+    let p = length_part lc.len c.in_use-n.result xs c.in_use-n.ensures in
     record { place = refl; does = put_short (insert list c.args.at c.args.term) lc.len xs (omega (arith, length-insert list c.args.at c.args.term c.requires)) }
 
 pub returns : goal.returns
 returns g c =
     let lc = c.args.self.now in
     let xs = lc.terms.now in
-    let n = c.in-use-n.result in
+    let n = c.in_use-n.result in
     let list = take lc.len xs in
-    let p = length_part lc.len n xs c.in-use-n.ensures in
+    let p = length_part lc.len n xs c.in_use-n.ensures in
     let le : c.args.at ≤ n = omega (arith, c.requires) in
     record {
       place = refl;
       does = put_fits (insert list c.args.at c.args.term) c.insert.new.terms lc.len (n + 1) xs
-          (omega (arith, length-insert list c.args.at c.args.term c.requires)) (omega arith) (c.insert.ensures ∙ inserted_cut lc.len n c.args.at c.args.term xs c.in-use-n.ensures (omega arith) le);
+          (omega (arith, length-insert list c.args.at c.args.term c.requires)) (omega arith) (c.insert.ensures ∙ inserted_cut lc.len n c.args.at c.args.term xs c.in_use-n.ensures (omega arith) le);
     }

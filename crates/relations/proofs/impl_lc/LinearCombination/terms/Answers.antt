@@ -2,4 +2,4 @@ use Rattle.relations.proofs.Holds.{part}
 use Rattle.relations.proofs.impl_lc.LinearCombination.terms.Goals as goal
 
 pub returns : goal.returns
-returns g c = part c.args.self.now.len c.in-use-n.result c.args.self.now.terms.now c.in-use-n.ensures
+returns g c = part c.args.self.now.len c.in_use-n.result c.args.self.now.terms.now c.in_use-n.ensures
