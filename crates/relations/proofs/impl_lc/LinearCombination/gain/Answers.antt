@@ -1,4 +1,4 @@
-use Rattle.std.proofs.Common.{◌-◌, length, refl, ap, arith}
+use Rattle.std.proofs.Common.{length, refl, ap, arith}
 use Rattle.variables.specs.Locate.{gained}
 use Rattle.relations.proofs.Holds.{held_by, part}
 use Rattle.relations.proofs.impl_lc.LinearCombination.gain.Goals as goal
