@@ -1,6 +1,6 @@
 -- A call is accepted exactly where its conditions hold. Assumes nothing.
 use Rattle.std.proofs.Common.{◌≡◌, ℕ, ◌+◌, ◌<◌, ◌≤◌, Bool, true, false, not, eqb, ◌↔◌, List, [], ◌∷◌, length, Some, None, Ok, Err, Option, Result, sym, refl, ap, ◌∙◌, subst, arith}
-use Rattle.std.specs.List.{AllByRecursion as All}
+use Rattle.std.specs.List.{AllByRecursion}
 use Rattle.std.proofs.lemmas.Bool.{and_parts, and_from, eqb-true, eq-eqb, ltb-false, le-ltb, not-true, not_from_false}
 use Rattle.field.specs.Laws.{Model}
 use Rattle.variables.specs.declared.LcIndex.{LcIndex}
@@ -25,7 +25,7 @@ use Rattle.account.proofs.Suffices.{places_suffice}
 use Rattle.account.proofs.Sounds.{fresh_means}
 
 -- tests that do not refuse
-none_first : (os : List (Option Told)) → All (λ o. o ≡ None) os → first os ≡ None
+none_first : (os : List (Option Told)) → AllByRecursion (λ o. o ≡ None) os → first os ≡ None
 none_first [] h = refl
 none_first (None ∷ os) h = none_first os h.1
 none_first (Some r ∷ os) h = h.0

@@ -1,18 +1,18 @@
 -- What a check answers: it has one answer, and rows that hold, put after others, do not change it. Assumes nothing.
 use Rattle.std.proofs.Common.{◌≡◌, ℕ, suc, ◌+◌, ◌↔◌, List, [], ◌∷◌, ◌++◌, map, Some, None, Option, sym, refl, ap, ap₂}
 use lib.ListN.{get_or-map}
-use Rattle.std.specs.List.{AllByRecursion as All}
+use Rattle.std.specs.List.{AllByRecursion}
 use Rattle.std.proofs.ByRecursion.{All-append}
 use Rattle.account.specs.Rows.{each, row_at, FailsFirst, FirstFailing}
 use Rattle.account.proofs.Lists.{all_split}
 
 module _ {X : Type 0} (H : X → Type 0) where
-  none_fails : (xs : List X) (j : ℕ) → All H xs → FailsFirst H xs j → ⊥
+  none_fails : (xs : List X) (j : ℕ) → AllByRecursion H xs → FailsFirst H xs j → ⊥
   none_fails [] j h f = f
   none_fails (x ∷ xs) ℕ.zero h f = f h.0
   none_fails (x ∷ xs) (suc j) h f = none_fails xs j h.1 f.1
 
-  fails_append : (xs ys : List X) (j : ℕ) → All H ys → FailsFirst H (xs ++ ys) j ↔ FailsFirst H xs j
+  fails_append : (xs ys : List X) (j : ℕ) → AllByRecursion H ys → FailsFirst H (xs ++ ys) j ↔ FailsFirst H xs j
   fails_append [] ys j h = (none_fails ys j h, λ f. absurd f)
   fails_append (x ∷ xs) ys ℕ.zero h = (λ f. f, λ f. f)
   fails_append (x ∷ xs) ys (suc j) h = let r = fails_append xs ys j h in (λ f. (f.0, r.0 f.1), λ f. (f.0, r.1 f.1))
@@ -30,7 +30,7 @@ module _ {X : Type 0} (H : X → Type 0) where
   one_answer xs (Some i) None f g = absurd (none_fails xs i g f)
   one_answer xs (Some i) (Some j) f g = ap Some (first_fails xs i j f g)
 
-  pub first_append : (xs ys : List X) (answer : Option ℕ) → All H ys → FirstFailing H (xs ++ ys) answer ↔ FirstFailing H xs answer
+  pub first_append : (xs ys : List X) (answer : Option ℕ) → AllByRecursion H ys → FirstFailing H (xs ++ ys) answer ↔ FirstFailing H xs answer
   first_append xs ys None h = (λ f. (all_split H xs ys f).0, λ f. All-append H xs ys f h)
   first_append xs ys (Some j) h = fails_append xs ys j h
 

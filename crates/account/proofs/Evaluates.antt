@@ -2,7 +2,7 @@
 use Rattle.std.proofs.Common.{◌≡◌, ℕ, zero, suc, ◌+◌, ◌<◌, List, [], ◌∷◌, ◌++◌, map, length, get_or, Some, None, sym, refl, ap, ◌∙◌, subst, append_assoc, append-nil, add-zero as nat_add_zero, arith, length-append}
 use mathlib.Core.List.{map-append}
 use lib.ListN.{length-map}
-use Rattle.std.specs.List.{AllByRecursion as All}
+use Rattle.std.specs.List.{AllByRecursion}
 use Rattle.std.proofs.lemmas.List.{get_or_at, length_push, map_push}
 use Rattle.std.proofs.ByRecursion.{All-weaker}
 use Rattle.field.specs.Laws.{Model, Keeps}
@@ -90,9 +90,9 @@ module _ {V : Type 0} {m : Model V} (keeps : Keeps m) where
       rest : List V
       splits : end ≡ added ++ rest
       long : length rest ≡ length os
-      meets : All (λ o. worth m (value m n (original ++ map m.stands end) []) o.merged ≡ get_or (original ++ map m.stands end) (n + o.witness) none) os
+      meets : AllByRecursion (λ o. worth m (value m n (original ++ map m.stands end) []) o.merged ≡ get_or (original ++ map m.stands end) (n + o.witness) none) os
 
-    follows : (os : List (Outlined V)) (added : List V) → Numbered (w + length added) os → All (λ o. Only (SymbolFree n o.witness) o.merged) os
+    follows : (os : List (Outlined V)) (added : List V) → Numbered (w + length added) os → AllByRecursion (λ o. Only (SymbolFree n o.witness) o.merged) os
         → Follows os added (added_after m instances witnesses added os)
     follows [] added numbered early = record { rest = []; splits = sym (append-nil added); long = refl; meets = tt }
     follows (o ∷ os) added numbered early =

@@ -2,7 +2,7 @@
 use Rattle.std.proofs.Common.{◌≡◌, ℕ, ◌+◌, ◌*◌, ◌<◌, ◌↔◌, List, [], ◌∷◌, ◌++◌, map, length, get_or, sym, refl, ap, ◌∙◌, subst, ap₂, inl, inr, arith, length-append}
 use mathlib.Core.List.{map-append, map-map}
 use lib.ListN.{length-map, get_or-map}
-use Rattle.std.specs.List.{AllByRecursion as All}
+use Rattle.std.specs.List.{AllByRecursion}
 use Rattle.std.proofs.lemmas.List.{ext_get_or}
 use Rattle.std.proofs.ByRecursion.{All-append, All-weaker, All-map}
 use Rattle.field.specs.Laws.{Model, Keeps}
@@ -78,7 +78,7 @@ module _ {V : Type 0} {m : Model V} (keeps : Keeps m) where
     many : length entries ≡ length done.outlined
     many = length-map done.outlined (λ o. o.entry)
 
-    counts : All (Only (Counted n w)) (lists given)
+    counts : AllByRecursion (Only (Counted n w)) (lists given)
     counts = lists_counted n w [] given known.terms
 
     as_marked : length (marks given) ≡ length done.finished
@@ -93,18 +93,18 @@ module _ {V : Type 0} {m : Model V} (keeps : Keeps m) where
     all_free : AllSymbolFree m rule w n W done
     all_free = subst (λ k. AllSymbolFree m rule w n (w + k) done) (sym many) (finish_symbol_free m rule w n (lists given) counts)
 
-    added_free : All (SymbolFreeRow n W) added_rows
+    added_free : AllByRecursion (SymbolFreeRow n W) added_rows
     added_free = All-map (SymbolFreeRow n W) (added_row m) done.outlined (All-weaker _ _ (λ o h. (h.0, (tt, tt), (h.1, tt))) done.outlined all_free.1)
 
-    rows_free : All (SymbolFreeRow n W) finished
+    rows_free : AllByRecursion (SymbolFreeRow n W) finished
     rows_free =
         let at : (k : ℕ) → Only (SymbolFree n W) (get_or done.finished k []) = λ k. all_at (λ t. SymbolFree n W t.variable) done.finished k all_free.0 in
-        subst (All (SymbolFreeRow n W)) (sym in_order)
+        subst (AllByRecursion (SymbolFreeRow n W)) (sym in_order)
         (All-append (SymbolFreeRow n W) first_rows added_rows
         (All-map (SymbolFreeRow n W) (row_at [] done.finished) starts (all_of (λ k. SymbolFreeRow n W (row_at [] done.finished k)) (λ k. (at k, at (k + 1), at (k + 2))) starts))
         added_free)
 
-    lists_free : (rs : List (Row (List (Term V)))) → All (SymbolFreeRow n W) rs → All (Only (SymbolFree n W)) (row_lists rs)
+    lists_free : (rs : List (Row (List (Term V)))) → AllByRecursion (SymbolFreeRow n W) rs → AllByRecursion (Only (SymbolFree n W)) (row_lists rs)
     lists_free [] h = tt
     lists_free (r ∷ rs) h = (h.0.0, (h.0.1, (h.0.2, lists_free rs h.1)))
 
@@ -142,15 +142,15 @@ module _ {V : Type 0} {m : Model V} (keeps : Keeps m) where
           ∙ ap (λ x. x ++ valued added_rows)
           (rows_each (worth m (value m n z [])) [] done.finished starts ∙ ap (λ x. rows zero (marks given) x) (h.same ∙ same_worths) ∙ sym (constraints_worths n w given known original))
 
-      added_rows_hold : Agreed → All (Holds m) (valued added_rows)
+      added_rows_hold : Agreed → AllByRecursion (Holds m) (valued added_rows)
       added_rows_hold h =
           All-map (Holds m) (each (worth m (value m n z []))) added_rows
           (All-map (λ r. Holds m (each (worth m (value m n z [])) r)) (added_row m) done.outlined
           (All-weaker _ _ (λ o k. (row_holds keeps rule n w z o).1 k.0) done.outlined h.added))
 
-      agreed_from_rows : All (Holds m) (valued finished) → Agreed
+      agreed_from_rows : AllByRecursion (Holds m) (valued finished) → Agreed
       agreed_from_rows h =
-          let each_row = all_unmap (Holds m) (each (worth m (value m n z []))) (first_rows ++ added_rows) (subst (λ rs. All (Holds m) (valued rs)) in_order h) in
+          let each_row = all_unmap (Holds m) (each (worth m (value m n z []))) (first_rows ++ added_rows) (subst (λ rs. AllByRecursion (Holds m) (valued rs)) in_order h) in
           let last = (all_split (λ r. Holds m (each (worth m (value m n z [])) r)) first_rows added_rows each_row).1 in
           let os = all_unmap (λ r. Holds m (each (worth m (value m n z [])) r)) (added_row m) done.outlined last in
           finish_agrees keeps rule n w z (lists given) (All-weaker _ _ (λ o k. inl ((row_holds keeps rule n w z o).0 k)) done.outlined os)
@@ -174,7 +174,7 @@ module _ {V : Type 0} {m : Model V} (keeps : Keeps m) where
 
     -- where the added rows hold, the added witnesses are what they stand for
     pub stood_from_rows : (original added : List Member) → length original ≡ n + w → length added ≡ length done.outlined
-        → All (Meets keeps rule n w (original ++ added)) done.outlined → added ≡ combination_worths m n given entries original
+        → AllByRecursion (Meets keeps rule n w (original ++ added)) done.outlined → added ≡ combination_worths m n given entries original
     stood_from_rows original added long la h =
         let agreed = finish_agrees keeps rule n w (original ++ added) (lists given) (All-weaker _ _ (λ o k. inl k) done.outlined h) in
         stood_from_agreed original added long agreed (la ∙ sym many)
@@ -186,11 +186,11 @@ module _ {V : Type 0} {m : Model V} (keeps : Keeps m) where
         let as_written = constraints_at m n original (lists given) (constraints given) in (
           λ h.
               let agreed = agreed_from_rows original added long (iff.0 h) in
-              let parts = all_split (Holds m) as_written _ (subst (All (Holds m)) (valued_rows original added long agreed) (iff.0 h)) in
+              let parts = all_split (Holds m) as_written _ (subst (AllByRecursion (Holds m)) (valued_rows original added long agreed) (iff.0 h)) in
               (parts.0, stood_from_agreed original added long agreed la),
           λ h.
               let agreed = agreed_from_stood original added long h.1 in
-              iff.1 (subst (All (Holds m)) (sym (valued_rows original added long agreed)) (All-append (Holds m) as_written _ h.0 (added_rows_hold original added long agreed))),
+              iff.1 (subst (AllByRecursion (Holds m)) (sym (valued_rows original added long agreed)) (All-append (Holds m) as_written _ h.0 (added_rows_hold original added long agreed))),
         )
 
     -- what an added row is worth where its witness has the worth of its combination

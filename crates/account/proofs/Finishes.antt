@@ -1,7 +1,7 @@
 -- Finished lists are worth what the lists as written are, once the added witnesses are what they stand for. Assumes nothing.
 use Rattle.std.proofs.Common.{◌≡◌, ℕ, ◌+◌, ◌<◌, ◌⊎◌, ◌↔◌, List, [], ◌∷◌, ◌++◌, map, length, get_or, sym, refl, ap, ◌∙◌, ap₂, ⊎_elim, arith}
 use lib.ListN.{length-map}
-use Rattle.std.specs.List.{AllByRecursion as All}
+use Rattle.std.specs.List.{AllByRecursion}
 use Rattle.std.proofs.lemmas.List.{get_or_append_left, length_push, map_push, get_or_push}
 use Rattle.std.proofs.ByRecursion.{All-push, All-weaker}
 use Rattle.std.proofs.lemmas.Bool.{cond_both}
@@ -38,13 +38,13 @@ module _ {V : Type 0} {m : Model V} (keeps : Keeps m) where
     worth_original ts h =
         same_worth keeps (value m n (original ++ added) []) (value m n original []) ts (All-weaker _ _ (λ t k. value_original [] t.variable (symbol_free_counted n w t.variable k)) ts h)
 
-    worths_original_after : (ls : List (List (Term V))) (ws : List Member) → All (Only (Counted n w)) ls → worths_after m n (original ++ added) ws ls ≡ worths_after m n original ws ls
+    worths_original_after : (ls : List (List (Term V))) (ws : List Member) → AllByRecursion (Only (Counted n w)) ls → worths_after m n (original ++ added) ws ls ≡ worths_after m n original ws ls
     worths_original_after [] ws c = refl
     worths_original_after (l ∷ ls) ws c =
         let same = same_worth keeps (value m n (original ++ added) ws) (value m n original ws) l (All-weaker _ _ (λ t k. value_original ws t.variable k) l c.0) in
         ap (λ x. worths_after m n (original ++ added) (ws ++ x ∷ []) ls) same ∙ worths_original_after ls (ws ++ worth m (value m n original ws) l ∷ []) c.1
 
-    pub worths_original : (ls : List (List (Term V))) → All (Only (Counted n w)) ls → worths m n (original ++ added) ls ≡ worths m n original ls
+    pub worths_original : (ls : List (List (Term V))) → AllByRecursion (Only (Counted n w)) ls → worths m n (original ++ added) ls ≡ worths m n original ls
     worths_original ls c = worths_original_after ls [] c
 
   module _ (rule : Rule V) (n w : ℕ) (z : List Member) where
@@ -65,24 +65,24 @@ module _ {V : Type 0} {m : Model V} (keeps : Keeps m) where
 
     pub record Agrees (s : Finishing V) (ws : List Member) : Type 0 where
       pub same : map (worth m (value m n z [])) s.finished ≡ ws
-      pub added : All (λ o. Meets o × Stands ws o × (o.entry < length ws)) s.outlined
+      pub added : AllByRecursion (λ o. Meets o × Stands ws o × (o.entry < length ws)) s.outlined
 
     -- the worths of one list more change nothing for the witnesses added before
-    still : (ws : List Member) (x : Member) (os : List (Outlined V)) → All (λ o. Meets o × Stands ws o × (o.entry < length ws)) os → All (λ o. Meets o × Stands (ws ++ x ∷ []) o × (o.entry < length (ws ++ x ∷ []))) os
+    still : (ws : List Member) (x : Member) (os : List (Outlined V)) → AllByRecursion (λ o. Meets o × Stands ws o × (o.entry < length ws)) os → AllByRecursion (λ o. Meets o × Stands (ws ++ x ∷ []) o × (o.entry < length (ws ++ x ∷ []))) os
     still ws x os h =
         All-weaker _ _ (λ o k. (k.0, k.1 ∙ sym (get_or_append_left ws (x ∷ []) none o.entry k.2), omega (arith, length_push ws x, k.2))) os h
 
     -- `end` is what all lists are worth
     taken_agrees : (s : Finishing V) (ws end : List Member) (merged : List (Term V)) (x : Member) → worth m (value m n z []) merged ≡ x
         → ((k : ℕ) → k < length (ws ++ x ∷ []) → get_or end k none ≡ get_or (ws ++ x ∷ []) k none) → Agrees s ws
-        → All (λ o. Meets o ⊎ Stands end o) (taken m rule w s merged).outlined → Agrees (taken m rule w s merged) (ws ++ x ∷ [])
+        → AllByRecursion (λ o. Meets o ⊎ Stands end o) (taken m rule w s merged).outlined → Agrees (taken m rule w s merged) (ws ++ x ∷ [])
     taken_agrees s ws end merged x e kept h =
         let long : length s.finished ≡ length ws = sym (length-map s.finished (worth m (value m n z []))) ∙ ap length h.same in
         let within : length s.finished < length (ws ++ x ∷ []) = omega (arith, length_push ws x) in
         let here : get_or (ws ++ x ∷ []) (length s.finished) none ≡ x = get_or_push ws x none (length s.finished) (sym long) in
         let pushed : (l : List (Term V)) → worth m (value m n z []) l ≡ x → map (worth m (value m n z [])) (s.finished ++ l ∷ []) ≡ ws ++ x ∷ []
         = λ l f. map_push (worth m (value m n z [])) s.finished l ∙ ap₂ (λ a b. a ++ b ∷ []) h.same f in
-        cond_both (rule (length s.finished) merged) _ _ (λ (s' : Finishing V). All (λ o. Meets o ⊎ Stands end o) s'.outlined → Agrees s' (ws ++ x ∷ []))
+        cond_both (rule (length s.finished) merged) _ _ (λ (s' : Finishing V). AllByRecursion (λ o. Meets o ⊎ Stands end o) s'.outlined → Agrees s' (ws ++ x ∷ []))
         (λ _ b.
         let o : Outlined V = record { entry = length s.finished; witness = w + length s.outlined; merged = merged } in
         let is : get_or z (n + o.witness) none ≡ x
@@ -94,7 +94,7 @@ module _ {V : Type 0} {m : Model V} (keeps : Keeps m) where
         (λ _ b. record { same = pushed merged e; added = still ws x s.outlined h.added })
 
     agrees_after : (ls : List (List (Term V))) (s : Finishing V) (ws : List Member) → Agrees s ws
-        → All (λ o. Meets o ⊎ Stands (worths_after m n z ws ls) o) (finish_after m rule w s ls).outlined
+        → AllByRecursion (λ o. Meets o ⊎ Stands (worths_after m n z ws ls) o) (finish_after m rule w s ls).outlined
         → Agrees (finish_after m rule w s ls) (worths_after m n z ws ls)
     agrees_after [] s ws h b = h
     agrees_after (l ∷ ls) s ws h b =
@@ -109,5 +109,5 @@ module _ {V : Type 0} {m : Model V} (keeps : Keeps m) where
 
     -- Whether the added rows hold or the added witnesses are what they stand for: then both are so, and the finished lists are worth
     -- what the lists as written are.
-    pub finish_agrees : (ls : List (List (Term V))) → All (λ o. Meets o ⊎ Stands (worths m n z ls) o) (finish m rule w ls).outlined → Agrees (finish m rule w ls) (worths m n z ls)
+    pub finish_agrees : (ls : List (List (Term V))) → AllByRecursion (λ o. Meets o ⊎ Stands (worths m n z ls) o) (finish m rule w ls).outlined → Agrees (finish m rule w ls) (worths m n z ls)
     finish_agrees ls b = agrees_after ls (untaken) [] (record { same = refl; added = tt }) b

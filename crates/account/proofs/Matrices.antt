@@ -1,6 +1,6 @@
 -- A row of a matrix times a vector is what the row's list is worth. Assumes nothing.
 use Rattle.std.proofs.Common.{◌≡◌, ℕ, suc, ◌+◌, ◌<◌, Bool, true, false, cond, eqb, ◌↔◌, List, [], ◌∷◌, ◌++◌, map, length, get_or, Some, None, Option, sym, refl, ap, ◌∙◌, subst, ap₂, arith}
-use Rattle.std.specs.List.{AllByRecursion as All}
+use Rattle.std.specs.List.{AllByRecursion}
 use Rattle.std.proofs.lemmas.Bool.{cond_both, cond-true, cond-false, eq-eqb, ne_eqb}
 use Rattle.field.specs.Laws.{Model, Keeps}
 use Rattle.variables.specs.declared.Variable.{Variable}
@@ -89,14 +89,14 @@ module _ {V : Type 0} {m : Model V} (keeps : Keeps m) where
     row_worth r s = λ i. record { a = cells_worth r.a s.0 i; b = cells_worth r.b s.1 i; c = cells_worth r.c s.2 i }
 
     -- Marlin's condition over all rows is that each row holds
-    pub marlin_holds : (rs : List (Row (List (Term V)))) → All FreeRow rs → All (Marlin m z) (map (each (cells m n)) rs) ↔ All (Holds m) (map (each (worth m (value m n z []))) rs)
+    pub marlin_holds : (rs : List (Row (List (Term V)))) → AllByRecursion FreeRow rs → AllByRecursion (Marlin m z) (map (each (cells m n)) rs) ↔ AllByRecursion (Holds m) (map (each (worth m (value m n z []))) rs)
     marlin_holds [] s = (λ _. tt, λ _. tt)
     marlin_holds (r ∷ rs) s =
         let rest = marlin_holds rs s.1 in
         let e = row_worth r s.0 in
         (λ h. (subst (Holds m) e h.0, rest.0 h.1), λ h. (subst (Holds m) (sym e) h.0, rest.1 h.1))
 
-    fails_same : (rs : List (Row (List (Term V)))) → All FreeRow rs → (j : ℕ) → FailsFirst (Marlin m z) (map (each (cells m n)) rs) j ↔ FailsFirst (Holds m) (map (each (worth m (value m n z []))) rs) j
+    fails_same : (rs : List (Row (List (Term V)))) → AllByRecursion FreeRow rs → (j : ℕ) → FailsFirst (Marlin m z) (map (each (cells m n)) rs) j ↔ FailsFirst (Holds m) (map (each (worth m (value m n z []))) rs) j
     fails_same [] s j = (λ f. f, λ f. f)
     fails_same (r ∷ rs) s ℕ.zero = let e = row_worth r s.0 in (λ f h. f (subst (Holds m) (sym e) h), λ f h. f (subst (Holds m) e h))
     fails_same (r ∷ rs) s (suc j) =
@@ -105,7 +105,7 @@ module _ {V : Type 0} {m : Model V} (keeps : Keeps m) where
         (λ f. (subst (Holds m) e f.0, rest.0 f.1), λ f. (subst (Holds m) (sym e) f.0, rest.1 f.1))
 
     -- the first row that fails by Marlin's condition is the first that fails by worth
-    pub marlin_first : (rs : List (Row (List (Term V)))) → All FreeRow rs → (answer : Option ℕ)
+    pub marlin_first : (rs : List (Row (List (Term V)))) → AllByRecursion FreeRow rs → (answer : Option ℕ)
         → FirstFailing (Marlin m z) (map (each (cells m n)) rs) answer ↔ FirstFailing (Holds m) (map (each (worth m (value m n z []))) rs) answer
     marlin_first rs s None = marlin_holds rs s
     marlin_first rs s (Some j) = fails_same rs s j

@@ -1,6 +1,6 @@
 -- Where the tables fit, no test refuses by 17. Assumes nothing.
 use Rattle.std.proofs.Common.{◌≡◌, ℕ, ◌<◌, Bool, true, false, not, List, [], ◌∷◌, length, Some, None, Ok, Err, Option, Result, sym, refl, ap, ◌∙◌, ⊎_elim, arith}
-use Rattle.std.specs.List.{AllByRecursion as All}
+use Rattle.std.specs.List.{AllByRecursion}
 use Rattle.field.specs.Laws.{Model}
 use Rattle.variables.specs.declared.Variable.{Variable}
 use Rattle.variables.specs.declared.Variable.TheVariants.{Zero, One, Instance, Witness, SymbolicLc}
@@ -30,7 +30,7 @@ other_when : (b : Bool) (number : ℕ) → (number ≡ 17 → ⊥) → Other (wh
 other_when true number h r e n = h (ap (λ t. t.number) (some_is _ r e) ∙ n)
 other_when false number h r e n = some_none r None e refl
 
-other_first : (os : List (Option Told)) → All Other os → Other (first os)
+other_first : (os : List (Option Told)) → AllByRecursion Other os → Other (first os)
 other_first [] h = other_none
 other_first (None ∷ os) h = other_first os h.1
 other_first (Some t ∷ os) h = h.0
@@ -103,7 +103,7 @@ module _ {V : Type 0} where
           (λ rest. ⊎_elim (λ (is : t ≡ told 12). let z = ap (λ (u : Told). u.number) is in omega arith) (λ (is : t ≡ told 13). let z = ap (λ (u : Told). u.number) is in omega arith) rest)
           (places_refused m (rule_of x.goal (lists x.given)) (room_of k x) (start_of x) (places (lists x.given)) (lists x.given) t e)
 
-      tests_other : (call : Call V) → fits k x ≡ true → All Other (tests m k x call)
+      tests_other : (call : Call V) → fits k x ≡ true → AllByRecursion Other (tests m k x call)
       tests_other (set_mode mode) f = (other_when _ 10 (λ n. omega arith), tt)
       tests_other (set_optimization_goal goal) f = (other_when _ 10 (λ n. omega arith), tt)
       tests_other (new_input_variable handed) f = (other_when _ 11 (λ n. omega arith), (other_value x.mode handed, tt))

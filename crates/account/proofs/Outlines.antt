@@ -1,6 +1,6 @@
 -- What is outlined has a use, and so is a list that a call named. Assumes nothing.
 use Rattle.std.proofs.Common.{◌≡◌, ℕ, suc, ◌+◌, ◌*◌, ◌<◌, true, false, eqb, ◌⊎◌, List, [], ◌∷◌, ◌++◌, length, get_or, Some, sym, refl, ap, ◌∙◌, subst, inl, inr, ⊎_elim, append_assoc, arith, length-append}
-use Rattle.std.specs.List.{AllByRecursion as All, slice_get}
+use Rattle.std.specs.List.{AllByRecursion, slice_get}
 use Rattle.std.proofs.lemmas.List.{get_or_append_left}
 use Rattle.std.proofs.lemmas.Option.{slice_get-get_or}
 use Rattle.std.proofs.ByRecursion.{All-push, All-weaker}
@@ -63,24 +63,24 @@ weighs_used (suc u) n e = omega arith
 module _ {V : Type 0} (m : Model V) (rule : Rule V) (w : ℕ) where
   -- the rule picked each that was outlined
   Picked : Finishing V → Type 0
-  Picked s = All (λ o. rule o.entry o.merged ≡ true) s.outlined
+  Picked s = AllByRecursion (λ o. rule o.entry o.merged ≡ true) s.outlined
 
   taken_picked : (s : Finishing V) (merged : List (Term V)) → Picked s → Picked (taken m rule w s merged)
   unfolding Picked
   taken_picked s merged h =
-      cond_both (rule (length s.finished) merged) _ _ (λ (s' : Finishing V). All (λ o. rule o.entry o.merged ≡ true) s'.outlined)
+      cond_both (rule (length s.finished) merged) _ _ (λ (s' : Finishing V). AllByRecursion (λ o. rule o.entry o.merged ≡ true) s'.outlined)
       (λ is. All-push (λ o. rule o.entry o.merged ≡ true) s.outlined _ h is) (λ _. h)
 
   picked_after : (ls : List (List (Term V))) (s : Finishing V) → Picked s → Picked (finish_after m rule w s ls)
   picked_after [] s h = h
   picked_after (l ∷ ls) s h = picked_after ls (taken m rule w s (inlined m s.finished l)) (taken_picked s _ h)
 
-  pub finish_picked : (ls : List (List (Term V))) → All (λ o. rule o.entry o.merged ≡ true) (finish m rule w ls).outlined
+  pub finish_picked : (ls : List (List (Term V))) → AllByRecursion (λ o. rule o.entry o.merged ≡ true) (finish m rule w ls).outlined
   unfolding Picked
   finish_picked ls = picked_after ls _ tt
 
 pub outlined_plain : {V : Type 0} (m : Model V) (n w : ℕ) (given : List (Given V)) → Known n w given → (goal : OptimizationGoal)
-    → All (λ o. slice_get (marks given) o.entry ≡ Some Plain) (finish m (rule_of goal (lists given)) w (lists given)).outlined
+    → AllByRecursion (λ o. slice_get (marks given) o.entry ≡ Some Plain) (finish m (rule_of goal (lists given)) w (lists given)).outlined
 outlined_plain m n w given known goal = All-weaker _ _ (λ o is. by goal o is) _ (finish_picked m (rule_of goal (lists given)) w (lists given))
   where
     by : (goal : OptimizationGoal) (o : Outlined _) → rule_of goal (lists given) o.entry o.merged ≡ true → slice_get (marks given) o.entry ≡ Some Plain
@@ -89,7 +89,7 @@ outlined_plain m n w given known goal = All-weaker _ _ (λ o is. by goal o is) _
     by Weight o is = used_plain n w o.entry given known (weighs_used (uses (lists given) o.entry) (length o.merged) is)
 
 -- nothing is outlined under another goal
-none_picked : {V : Type 0} (os : List (Outlined V)) → All (λ o. false ≡ true) os → os ≡ []
+none_picked : {V : Type 0} (os : List (Outlined V)) → AllByRecursion (λ o. false ≡ true) os → os ≡ []
 none_picked [] h = refl
 none_picked (o ∷ os) h = absurd (true≢false (sym h.0))
 

@@ -1,6 +1,6 @@
 -- Tests that refuse nothing, and which variables are refused. Assumes nothing.
 use Rattle.std.proofs.Common.{◌≡◌, ℕ, suc, ◌+◌, ◌<◌, ◌≤◌, Bool, true, false, cond, not, ltb, ◌⊎◌, ◌↔◌, List, [], ◌∷◌, length, get_or, take, Some, None, Option, sym, refl, ap, ◌∙◌, inl, inr, arith}
-use Rattle.std.specs.List.{AllByRecursion as All, slice_get}
+use Rattle.std.specs.List.{AllByRecursion, slice_get}
 use Rattle.std.proofs.lemmas.List.{get_or_default}
 use Rattle.std.proofs.lemmas.Bool.{cond-true, ltb-true, lt-ltb, ltb-false}
 use Rattle.variables.specs.declared.LcIndex.{LcIndex}
@@ -35,7 +35,7 @@ pub enough : (due places k : ℕ) → when (lacks due places) k ≡ None → due
 enough due places k e = ltb-false places due (when_none (lacks due places) k e)
 
 -- tests of which none refuses
-pub first_none : (os : List (Option Told)) → first os ≡ None → All (λ o. o ≡ None) os
+pub first_none : (os : List (Option Told)) → first os ≡ None → AllByRecursion (λ o. o ≡ None) os
 first_none [] e = tt
 first_none (None ∷ os) e = (refl, first_none os e)
 first_none (Some r ∷ os) e = absurd (some_none r _ refl e)

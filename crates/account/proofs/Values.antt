@@ -1,7 +1,7 @@
 -- What a circuit answers at its kept values: checks and single values. Assumes nothing.
 use Rattle.std.proofs.Common.{◌≡◌, ℕ, ◌+◌, true, false, not, List, [], ◌∷◌, ◌++◌, map, length, get_or, Some, None, Option, sym, refl, ap, ◌∙◌, subst, ap₂, subst₂, append-nil, arith, length-append}
 use lib.ListN.{length-map}
-use Rattle.std.specs.List.{AllByRecursion as All, slice_get}
+use Rattle.std.specs.List.{AllByRecursion, slice_get}
 use Rattle.std.proofs.lemmas.Option.{slice_get-get_or}
 use Rattle.std.proofs.ByRecursion.{All-map}
 use Rattle.std.proofs.lemmas.Bool.{cond_both, true≢false}
@@ -68,7 +68,7 @@ module _ {V : Type 0} where
 
       record Made (mode : SynthesisMode) (done : Finished V) : Type 0 where
         formed : WellFormed n w x.given (constraints x.given) done.lists done.combinations
-        plain : All (λ k. slice_get (marks x.given) k ≡ Some Plain) done.combinations
+        plain : AllByRecursion (λ k. slice_get (marks x.given) k ≡ Some Plain) done.combinations
         inlined : (x.goal ≡ Weight → ⊥) → done.combinations ≡ []
         no_added : (KeepsValues mode → ⊥) → done.added ≡ []
         vectors : Exact m n w x.given (constraints x.given) done.lists done.combinations
@@ -183,7 +183,7 @@ module _ {V : Type 0} where
             or_zero_means _ _ (merged_means keeps x.instances.kept x.witnesses.kept done.added ts h')
             ∙ ap (λ i. worth m (value m i all_values []) ts) (s.instances_kept k)
 
-        rows_read : (rs : List (Row (List (Term V)))) → All (SymbolFreeRow instances (x.witnesses.count + length done.combinations)) rs
+        rows_read : (rs : List (Row (List (Term V)))) → AllByRecursion (SymbolFreeRow instances (x.witnesses.count + length done.combinations)) rs
             → map (each m.stands) (map (each worked) rs) ≡ rows_at m instances all_values rs
         rows_read [] h = refl
         rows_read (r ∷ rs) h =
@@ -262,7 +262,7 @@ module _ {V : Type 0} where
     check_right cs x s r (Prove true) e h = reads_fail cs x s (subst KeepsValues (sym e) tt) x.finished (r (subst KeepsMatrices (sym e) tt))
     check_right cs x s r (Prove false) e h =
         let none_written = s.bare (λ k. subst KeepsMatrices e k) in
-        subst (λ rs. All (Holds m) (map (each (worth m (value m x.instances.count (kept_of m x) (worths m x.instances.count (kept_of m x) (lists x.given))))) rs)) (sym none_written) tt
+        subst (λ rs. AllByRecursion (Holds m) (map (each (worth m (value m x.instances.count (kept_of m x) (worths m x.instances.count (kept_of m x) (lists x.given))))) rs)) (sym none_written) tt
 
     pub check_marlin : (cs : List (Row (List (Term V)))) (x : Account V) → Sound m cs x → Right x → (mode : SynthesisMode) → x.mode ≡ mode → Checkable mode x
         → KeepsMatrices mode → (done : Finished V) → x.finished ≡ Some done

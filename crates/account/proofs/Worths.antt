@@ -1,7 +1,7 @@
 -- What lists are worth in rising order, by following symbols, and written out. Assumes nothing.
 use Rattle.std.proofs.Common.{◌≡◌, ℕ, suc, ◌+◌, ◌<◌, ◌≤◌, List, [], ◌∷◌, ◌++◌, map, length, get_or, take, sym, refl, ap, ◌∙◌, subst, ap₂, append_assoc, append-nil, zero-add as nat_zero_add, arith, length-take}
 use lib.ListN.{length-map, get_or-map}
-use Rattle.std.specs.List.{AllByRecursion as All}
+use Rattle.std.specs.List.{AllByRecursion}
 use Rattle.std.proofs.lemmas.List.{get_or_append_left, get_or_push, length_push, ext_get_or}
 use Rattle.std.proofs.ByRecursion.{All-weaker}
 use Rattle.field.specs.Laws.{Model, Keeps}
@@ -48,7 +48,7 @@ module _ {V : Type 0} {m : Model V} (keeps : Keeps m) where
     expanded_worth ws e ts = written_out ts ∙ ap (λ x. worth m (value m n z x) ts) e
 
   -- what a list is worth hangs on the variables that it names
-  pub same_worth : (at also : Variable → Member) (ts : List (Term V)) → All (λ t. at t.variable ≡ also t.variable) ts → worth m at ts ≡ worth m also ts
+  pub same_worth : (at also : Variable → Member) (ts : List (Term V)) → AllByRecursion (λ t. at t.variable ≡ also t.variable) ts → worth m at ts ≡ worth m also ts
   same_worth at also [] h = refl
   same_worth at also (t ∷ ts) h = ap₂ add (ap (mul (m.stands t.number)) h.0) (same_worth at also ts h.1)
 

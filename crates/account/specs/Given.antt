@@ -1,6 +1,6 @@
 -- Lists as they were handed in, and which variables each may name. Assumes nothing.
 use Rattle.std.specs.Prelude.{◌≡◌, ℕ, ◌<◌, List, [], ◌∷◌, ◌++◌, map, length, slice_index_or}
-use Rattle.std.specs.List.{AllByRecursion as All}
+use Rattle.std.specs.List.{AllByRecursion}
 use Rattle.variables.specs.declared.Variable.{Variable}
 use Rattle.variables.specs.declared.Variable.TheVariants.{Zero, One, Instance, Witness, SymbolicLc}
 use Rattle.variables.specs.declared.Term.{Term}
@@ -30,7 +30,7 @@ KnownVariable n w before (Witness i) = i < w
 KnownVariable n w before (SymbolicLc k) = (k.0 < length before) × (slice_index_or before k.0 A ≡ Plain)
 
 abbrev pub KnownTerms : {V : Type 0} → ℕ → ℕ → List Mark → List (Term V) → Type 0
-KnownTerms n w before ts = All (λ t. KnownVariable n w before t.variable) ts
+KnownTerms n w before ts = AllByRecursion (λ t. KnownVariable n w before t.variable) ts
 
 -- lists that come after those with the marks `before`
 abbrev pub KnownAfter : {V : Type 0} → ℕ → ℕ → List Mark → List (Given V) → Type 0

@@ -1,6 +1,6 @@
 -- What is promised of lists and of finalising them, for every field that keeps the laws. Assumes nothing.
 use Rattle.std.specs.Prelude.{◌≡◌, ℕ, ◌+◌, ◌*◌, ◌<◌, ◌≤◌, ◌⊎◌, ◌↔◌, List, [], ◌∷◌, ◌++◌, map, length, get_or, take, Some, None, Ok, Err, Option, ◌≢◌, slice_index_or}
-use Rattle.std.specs.List.{AllByRecursion as All, slice_get}
+use Rattle.std.specs.List.{AllByRecursion, slice_get}
 use Rattle.field.specs.Laws.{Model}
 use Rattle.variables.specs.declared.Variable.{Variable}
 use Rattle.variables.specs.declared.Variable.TheVariants.{SymbolicLc}
@@ -40,17 +40,17 @@ ListsRefused V = (n w : ℕ) (before : List Mark) (list : ℕ) (ts : List (Term 
 -- what the lists of a row may name: no symbol, and the rest below its count
 abbrev pub SymbolFreeRow : {V : Type 0} → ℕ → ℕ → Row (List (Term V)) → Type 0
 SymbolFreeRow n w r =
-    All (λ t. SymbolFree n w t.variable) r.a × All (λ t. SymbolFree n w t.variable) r.b × All (λ t. SymbolFree n w t.variable) r.c
+    AllByRecursion (λ t. SymbolFree n w t.variable) r.a × AllByRecursion (λ t. SymbolFree n w t.variable) r.b × AllByRecursion (λ t. SymbolFree n w t.variable) r.c
 
 -- The finished lists of the lists given, over n instances, w witnesses and an added witness for each of `combinations`, the numbers of the
 -- lists that they stand for: there is one for each list and three for each added witness, and none holds a symbol, nor does a row; the
 -- rows number the constraints plus the added witnesses; and each added witness stands for one of the lists given.
 pub record WellFormed {V : Type 0} (n w : ℕ) (given : List (Given V)) (cs : List (Row (List (Term V)))) (finished : List (List (Term V))) (combinations : List ℕ) : Type 0 where
   pub long : length finished ≡ length given + 3 * length combinations
-  pub symbol_free : All (λ ts. All (λ t. SymbolFree n (w + length combinations) t.variable) ts) finished
-  pub rows_symbol_free : All (SymbolFreeRow n (w + length combinations)) (finished_rows given finished combinations)
+  pub symbol_free : AllByRecursion (λ ts. AllByRecursion (λ t. SymbolFree n (w + length combinations) t.variable) ts) finished
+  pub rows_symbol_free : AllByRecursion (SymbolFreeRow n (w + length combinations)) (finished_rows given finished combinations)
   pub rows_counted : length (finished_rows given finished combinations) ≡ length cs + length combinations
-  pub standing : All (λ k. k < length given) combinations
+  pub standing : AllByRecursion (λ k. k < length given) combinations
 
 module _ {V : Type 0} (m : Model V) where
   open m.ring use {Member, zero, one}
@@ -78,7 +78,7 @@ module _ {V : Type 0} (m : Model V) where
   -- Under a vector that begins with one, an answer names the first row that fails Marlin's condition on the matrices of some rows without
   -- symbols exactly when it names the first that fails by worth.
   abbrev pub MatricesExact : Type 0
-  MatricesExact = (n w : ℕ) (rs : List (Row (List (Term V)))) → All (SymbolFreeRow n w) rs
+  MatricesExact = (n w : ℕ) (rs : List (Row (List (Term V)))) → AllByRecursion (SymbolFreeRow n w) rs
       → (z : List Member) → length z ≡ n + w → slice_index_or z 0 zero ≡ one → (answer : Option ℕ)
       → FirstFailing (Marlin m z) (map (each (cells m n)) rs) answer ↔ FirstFailing (Holds m) (rows_at m n z rs) answer
 
@@ -100,8 +100,8 @@ module _ {V : Type 0} (m : Model V) where
   abbrev pub Admits : ℕ → ℕ → List (Given V) → List (Row (List (Term V))) → List ℕ → List (Row (List (Cell V))) → Type 0
   Admits n w given cs combinations rs =
       (original added : List Member) → length original ≡ n + w → length added ≡ length combinations → slice_index_or (original ++ added) 0 zero ≡ one
-      → All (Marlin m (original ++ added)) rs
-      ↔ (All (Holds m) (constraints_at m n original (lists given) cs) × (added ≡ combination_worths n given combinations original))
+      → AllByRecursion (Marlin m (original ++ added)) rs
+      ↔ (AllByRecursion (Holds m) (constraints_at m n original (lists given) cs) × (added ≡ combination_worths n given combinations original))
 
   abbrev pub Exact : ℕ → ℕ → List (Given V) → List (Row (List (Term V))) → List (List (Term V)) → List ℕ → Type 0
   Exact n w given cs finished combinations = Admits n w given cs combinations (map (each (cells m n)) (finished_rows given finished combinations))

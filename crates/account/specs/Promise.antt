@@ -1,6 +1,6 @@
 -- The main promise, over whole runs. Assumes nothing.
 use Rattle.std.specs.Prelude.{◌≡◌, ℕ, ◌+◌, true, cond, List, [], ◌∷◌, ◌++◌, map, length, Some, None, Ok, Err, Option, ◌≢◌}
-use Rattle.std.specs.List.{AllByRecursion as All, slice_get}
+use Rattle.std.specs.List.{AllByRecursion, slice_get}
 use Rattle.field.specs.Laws.{Model}
 use Rattle.variables.specs.declared.Variable.{Variable}
 use Rattle.variables.specs.declared.Variable.TheVariants.{Instance, Witness, SymbolicLc}
@@ -29,7 +29,7 @@ module _ {V : Type 0} (m : Model V) where
     -- No finished list or row holds a symbol, and the rows number the accepted constraints plus the added witnesses.
     pub formed : WellFormed x.instances.count x.witnesses.count x.given cs done.lists done.combinations
     -- An added witness stands for a list that a call named, and never for a constraint's own; and there is one under goal Weight alone.
-    pub plain : All (λ k. slice_get (marks x.given) k ≡ Some Plain) done.combinations
+    pub plain : AllByRecursion (λ k. slice_get (marks x.given) k ≡ Some Plain) done.combinations
     pub inlined : (x.goal ≢ Weight) → done.combinations ≡ []
     -- Every vector that begins with one satisfies the finished rows exactly when its original part satisfies every accepted constraint as
     -- written and each added witness equals the combination it stands for.

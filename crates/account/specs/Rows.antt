@@ -1,6 +1,6 @@
 -- Rows, when they hold, and the matrices that are written of them. Assumes nothing.
 use Rattle.std.specs.Prelude.{◌≡◌, ℕ, suc, ◌+◌, cond, List, [], ◌∷◌, ◌++◌, map, length, Some, None, Option, ◌==◌, slice_index_or, slice_range}
-use Rattle.std.specs.List.{flat_map, range_with_len, AllByRecursion as All}
+use Rattle.std.specs.List.{flat_map, range_with_len, AllByRecursion}
 use Rattle.field.specs.Laws.{Model}
 use Rattle.variables.specs.declared.Variable.{Variable}
 use Rattle.variables.specs.declared.Variable.TheVariants.{Zero, One, Instance, Witness, SymbolicLc}
@@ -61,7 +61,7 @@ FailsFirst Holds (r ∷ rs) (suc j) = Holds r × FailsFirst Holds rs j
 
 -- what a check answers: the first row that fails, and none where all hold
 abbrev pub FirstFailing : {X : Type 0} → (X → Type 0) → List X → Option ℕ → Type 0
-FirstFailing Holds rs None = All Holds rs
+FirstFailing Holds rs None = AllByRecursion Holds rs
 FirstFailing Holds rs (Some j) = FailsFirst Holds rs j
 
 -- what a matrix keeps of a term

@@ -1,6 +1,6 @@
 -- A window gathered a reading at a time, and what it is worth. Assumes nothing.
 use Rattle.std.proofs.Common.{◌≡◌, ℕ, zero, suc, ◌+◌, ◌<◌, ◌≤◌, false, ltb, leb, List, [], ◌∷◌, ◌++◌, map, length, get_or, take, drop, Some, Ok, Err, Option, Result, sym, refl, ap, ◌∙◌, ap₂, zero-add, one-add, arith, take-append-drop}
-use Rattle.std.specs.List.{AllByRecursion as All}
+use Rattle.std.specs.List.{AllByRecursion}
 use Rattle.std.proofs.lemmas.List.FromFn.{length-map-range_with_len, map-range_with_len_more}
 use Rattle.std.proofs.lemmas.List.{take_all, drop_all, drop_at, drop-drop, drop_more, length-drop, get_or-map}
 use Rattle.std.proofs.lemmas.Bool.{cond_both, cond-true, cond-false, lt-ltb, le-leb}
@@ -83,7 +83,7 @@ module _ {V : Type 0} (m : Model V) where
 module _ {V : Type 0} {m : Model V} (keeps : Keeps m) where
   open m.ring use {Member, zero as none, one, ◌⊕◌ as add, ◌⊗◌ as mul}
 
-  window_free : (rs : List V) (a n : ℕ) → a + n ≤ length rs → All (λ t. SymbolFree 0 (length rs) t.variable) (window m a n)
+  window_free : (rs : List V) (a n : ℕ) → a + n ≤ length rs → AllByRecursion (λ t. SymbolFree 0 (length rs) t.variable) (window m a n)
   window_free rs a zero le = tt
   window_free rs a (suc n) le = (omega arith, window_free rs (a + 1) n (omega arith))
 

@@ -1,6 +1,6 @@
 -- `compactify` keeps what a list is worth, rises, and names just what was named. Assumes nothing.
 use Rattle.std.proofs.Common.{◌≡◌, true, List, [], ◌∷◌, sym, refl, ap, ◌∙◌, subst}
-use Rattle.std.specs.List.{ContainsAt as Has, AllByRecursion as All}
+use Rattle.std.specs.List.{ContainsAt, AllByRecursion}
 use Rattle.std.proofs.lemmas.Bool.{cond_both}
 use Rattle.std.proofs.ByRecursion.{all_has_itself}
 use Rattle.field.specs.Laws.{Model, Keeps}
@@ -65,7 +65,7 @@ module _ {V : Type 0} (m : Model V) where
 
   module _ (P : Variable → Type 0) where
     abbrev pub Only : List (Term V) → Type 0
-    Only ts = All (λ t. P t.variable) ts
+    Only ts = AllByRecursion (λ t. P t.variable) ts
 
     placed_only : (t : Term V) (us : List (Term V)) → P t.variable → Only us → Only (placed m t us)
     placed_only t [] p q = (p, tt)
@@ -98,7 +98,7 @@ module _ {V : Type 0} (m : Model V) where
     pub compactify_back : (ts : List (Term V)) → Only (compactify m ts) → Only ts
     compactify_back ts p = (all_placed_back [] ts p).1
 
-all_variables : {V : Type 0} (P : Variable → Type 0) (ts : List (Term V)) → All P (variables ts) → All (λ t. P t.variable) ts
+all_variables : {V : Type 0} (P : Variable → Type 0) (ts : List (Term V)) → AllByRecursion P (variables ts) → AllByRecursion (λ t. P t.variable) ts
 all_variables P [] h = tt
 all_variables P (t ∷ ts) h = (h.0, all_variables P ts h.1)
 
@@ -106,8 +106,8 @@ pub compacts : {V : Type 0} {m : Model V} → Keeps m → Compacts m
 compacts {V} {m} keeps ts = record {
   worth_kept = λ at. compactify_worth keeps at ts;
   rises = compactify_rises m ts;
-  only_named = compactify_only m (Has (variables ts)) ts (all_variables (Has (variables ts)) ts (all_has_itself (variables ts)));
+  only_named = compactify_only m (ContainsAt (variables ts)) ts (all_variables (ContainsAt (variables ts)) ts (all_has_itself (variables ts)));
   all_named =
       let out = compactify m ts in
-      compactify_back m (Has (variables out)) ts (all_variables (Has (variables out)) out (all_has_itself (variables out)));
+      compactify_back m (ContainsAt (variables out)) ts (all_variables (ContainsAt (variables out)) out (all_has_itself (variables out)));
 }

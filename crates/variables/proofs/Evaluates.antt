@@ -2,7 +2,7 @@
 use Rattle.std.proofs.Common.{◌≡◌, ℕ, zero, suc, ◌+◌, ◌<◌, List, [], ◌∷◌, ◌++◌, map, length, get_or, Some, None, Option, sym, refl, ap, ◌∙◌, subst, ap₂, arith}
 use mathlib.Core.List.{map-append}
 use lib.ListN.{length-map}
-use Rattle.std.specs.List.{ContainsAt as Has, AllByRecursion as All, slice_get}
+use Rattle.std.specs.List.{ContainsAt, AllByRecursion, slice_get}
 use Rattle.std.proofs.lemmas.List.{get_or_append_left, get_or-append-add}
 use Rattle.std.proofs.ByRecursion.{All-weaker}
 use Rattle.field.specs.Laws.{Model, Keeps}
@@ -29,7 +29,7 @@ module _ {V : Type 0} (m : Model V) where
   from_none at (t ∷ ts) = from_none at ts
 
   -- a term whose variable has no value leaves nothing
-  missing : (at : Variable → Option V) (ts : List (Term V)) (o : Option V) (t : Term V) → Has ts t → at t.variable ≡ None → evaluated_from m at o ts ≡ None
+  missing : (at : Variable → Option V) (ts : List (Term V)) (o : Option V) (t : Term V) → ContainsAt ts t → at t.variable ≡ None → evaluated_from m at o ts ≡ None
   missing at [] o t (k, lt, is) e = absurd (omega arith)
   missing at (u ∷ ts) o t (zero, lt, is) e =
       ap (λ r. evaluated_from m at r ts) (ap (accumulated m o u.number) (ap (λ (x : Term V). at x.variable) (is u) ∙ e) ∙ accumulated_none o u.number) ∙ from_none at ts
@@ -69,7 +69,7 @@ module _ {V : Type 0} {m : Model V} (keeps : Keeps m) where
   -- where the value of each variable that a list names stands for what the variable is worth, so does the list's
   module _ (at : Variable → Option V) (meant : Variable → Member) where
     abbrev Stand : List (Term V) → Type 0
-    Stand ts = All (λ t. Means m (at t.variable) (meant t.variable)) ts
+    Stand ts = AllByRecursion (λ t. Means m (at t.variable) (meant t.variable)) ts
 
     from_means : (ts : List (Term V)) (o : Option V) (a : Member) → Means m o a → Stand ts → Means m (evaluated_from m at o ts) (add a (worth m meant ts))
     from_means [] o a h k = subst (Means m o) (sym (keeps.laws.plus_zero a)) h

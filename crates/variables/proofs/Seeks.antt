@@ -1,6 +1,6 @@
 -- Where a variable is sought. Assumes nothing.
 use Rattle.std.proofs.Common.{◌≡◌, ◌<◌, Bool, true, false, List, [], ◌∷◌, length, get_or, take, ⊎_elim, one-add, arith}
-use Rattle.std.specs.List.{prefix_len, AllByRecursion as All}
+use Rattle.std.specs.List.{prefix_len, AllByRecursion}
 use Rattle.std.proofs.lemmas.List.Sums.{prefix_len-le-length}
 use Rattle.std.proofs.lemmas.Bool.{cases_Bool}
 use Rattle.variables.specs.declared.Term.{Term}
@@ -8,7 +8,7 @@ use Rattle.variables.specs.Order.{below}
 use Rattle.variables.specs.Laws.{Seeks}
 
 module _ {X : Type 0} (p : X → Bool) where
-  leading_passes : (xs : List X) → All (λ x. p x ≡ true) (take (prefix_len p xs) xs)
+  leading_passes : (xs : List X) → AllByRecursion (λ x. p x ≡ true) (take (prefix_len p xs) xs)
   leading_passes [] = tt
   leading_passes (x ∷ xs) =
       ⊎_elim

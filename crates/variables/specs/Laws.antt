@@ -1,6 +1,6 @@
 -- What holds of lists of terms, for every field that keeps the laws and whatever the variables are worth. Assumes nothing.
 use Rattle.std.specs.Prelude.{◌≡◌, ◌<◌, ◌≤◌, true, false, List, [], ◌++◌, map, length, take, Some, None, Option, slice_index_or}
-use Rattle.std.specs.List.{ContainsAt as Has, AllByRecursion as All}
+use Rattle.std.specs.List.{ContainsAt, AllByRecursion}
 use Rattle.field.specs.Laws.{Model}
 use Rattle.variables.specs.declared.Variable.{Variable}
 use Rattle.variables.specs.declared.Term.{Term}
@@ -19,7 +19,7 @@ variables ts = map (λ t. t.variable) ts
 -- every variable before the place sought is below, and the one there is not
 pub record Sought {V : Type 0} (v : Variable) (ts : List (Term V)) : Type 0 where
   pub within : seek v ts ≤ length ts
-  pub before : All (λ t. below t.variable v ≡ true) (take (seek v ts) ts)
+  pub before : AllByRecursion (λ t. below t.variable v ≡ true) (take (seek v ts) ts)
   pub there : (d : Term V) → seek v ts < length ts → below (slice_index_or ts (seek v ts) d).variable v ≡ false
 
 abbrev pub Seeks : Type 0 → Type 0
@@ -38,8 +38,8 @@ module _ {V : Type 0} (m : Model V) where
   pub record Compacted (ts : List (Term V)) : Type 0 where
     pub worth_kept : (at : Variable → Member) → worth m at (compactify m ts) ≡ worth m at ts
     pub rises : Rises (compactify m ts)
-    pub only_named : All (λ t. Has (variables ts) t.variable) (compactify m ts)
-    pub all_named : All (λ t. Has (variables (compactify m ts)) t.variable) ts
+    pub only_named : AllByRecursion (λ t. ContainsAt (variables ts) t.variable) (compactify m ts)
+    pub all_named : AllByRecursion (λ t. ContainsAt (variables (compactify m ts)) t.variable) ts
 
   abbrev pub Compacts : Type 0
   Compacts = (ts : List (Term V)) → Compacted ts
@@ -69,7 +69,7 @@ module _ {V : Type 0} (m : Model V) where
 
   -- Where a list names no symbol and only values that are kept, its value stands for what it is worth; where it names another, it has none.
   pub record Evaluates : Type 0 where
-    pub kept : (instances witnesses : List V) (ts : List (Term V)) → All (λ t. SymbolFree (length instances) (length witnesses) t.variable) ts
+    pub kept : (instances witnesses : List V) (ts : List (Term V)) → AllByRecursion (λ t. SymbolFree (length instances) (length witnesses) t.variable) ts
         → Means (evaluated m (read m instances witnesses []) ts) (worth m (value m (length instances) (map m.stands (instances ++ witnesses)) []) ts)
-    pub not_kept : (instances witnesses : List V) (ts : List (Term V)) (t : Term V) → Has ts t → (SymbolFree (length instances) (length witnesses) t.variable → ⊥)
+    pub not_kept : (instances witnesses : List V) (ts : List (Term V)) (t : Term V) → ContainsAt ts t → (SymbolFree (length instances) (length witnesses) t.variable → ⊥)
         → evaluated m (read m instances witnesses []) ts ≡ None
