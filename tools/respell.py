@@ -81,10 +81,23 @@ written-out-first written-spare x-times xor-back xor-bit xor-byte xor-exchange x
 xtimes-high xtimes-low xtimes-plus xtimes-right xtimes-scale zero-plus zero-stands zero-times
 """.split()
 
-# Where the plain rule would give a name that is taken.
+# Where the plain rule would give a name that is taken, or the name has no dash.
 OTHERWISE = {
     "bit-xor": "xor_of_bits",
     "merges-rise": "merges_rise_lem",
+    "zero?": "is_zero",
+    "one?": "is_one",
+    "instance?": "is_instance",
+    "witness?": "is_witness",
+    "symbol?": "is_lc",
+    "Known_here": "KnownHere",
+    "getD_means": "get_or_means",
+}
+
+# Words of the library that were imported under another word of it.
+ALIASES = {
+    "All": "AllByRecursion",
+    "Has": "ContainsAt",
 }
 
 
@@ -96,22 +109,25 @@ def respelled(name):
     return name.replace("-", "_")
 
 
-TABLE = {name: respelled(name) for name in NAMES}
-NAME = re.compile(r"[^\W\d][\w'◌]*(?:-[\w'◌]+)+")
+TABLE = {name: respelled(name) for name in NAMES} | OTHERWISE
+NAME = re.compile(r"[^\W\d][\w'◌]*(?:-[\w'◌]+)*\??")
+TEXT = re.compile(r'("(?:[^"\\]|\\.)*")')
+ANTT_COMMENT = re.compile(r"(?:^|(?<=\s))--(?=\s|$)")
+RATTLE_COMMENT = re.compile(r"//")
 
 
-def turned(text):
-    return NAME.sub(lambda found: TABLE.get(found.group(), found.group()), text)
+def turned(text, table=TABLE):
+    return NAME.sub(lambda found: table.get(found.group(), found.group()), text)
 
 
-def code(line, comment):
+def code(line, comment, table=TABLE):
     """The line with the names of its code respelled: a text in quotes and what follows the comment's mark stay."""
-    parts = re.split(r'("(?:[^"\\]|\\.)*")', line)
+    parts = TEXT.split(line)
     for i in range(0, len(parts), 2):
-        mark = re.search(comment, parts[i])
+        mark = comment.search(parts[i])
         if mark:
-            return "".join(parts[:i]) + turned(parts[i][: mark.start()]) + parts[i][mark.start() :] + "".join(parts[i + 1 :])
-        parts[i] = turned(parts[i])
+            return "".join(parts[:i]) + turned(parts[i][: mark.start()], table) + parts[i][mark.start() :] + "".join(parts[i + 1 :])
+        parts[i] = turned(parts[i], table)
     return "".join(parts)
 
 
@@ -119,10 +135,23 @@ def page(line):
     return re.sub(r"`[^`]*`", lambda found: turned(found.group()), line)
 
 
+def lines(text, turn):
+    return "".join(turn(line) for line in text.splitlines(keepends=True))
+
+
+def antt(text):
+    """Definitions and proofs: the names, and then the library's words under their own names."""
+    text = lines(text, lambda line: code(line, ANTT_COMMENT))
+    table = {name: word for name, word in ALIASES.items() if f"{word} as {name}" in text}
+    for name, word in table.items():
+        text = text.replace(f"{word} as {name}", word)
+    return lines(text, lambda line: code(line, ANTT_COMMENT, table))
+
+
 def rewrite(path, turn):
     with open(path, encoding="utf-8", newline="") as file:
         old = file.read()
-    new = "".join(turn(line) for line in old.splitlines(keepends=True))
+    new = turn(old)
     if new != old:
         with open(path, "w", encoding="utf-8", newline="") as file:
             file.write(new)
@@ -134,12 +163,12 @@ def main():
         for file in sorted(files):
             path = os.path.join(folder, file)
             if file.endswith(".antt"):
-                rewrite(path, lambda line: code(line, r"(?:^|(?<=\s))--(?=\s|$)"))
+                rewrite(path, antt)
             elif file.endswith(".rt"):
-                rewrite(path, lambda line: code(line, r"//"))
+                rewrite(path, lambda text: lines(text, lambda line: code(line, RATTLE_COMMENT)))
     for path in ["README.md"] + sorted(os.path.join("docs", file) for file in os.listdir("docs")):
         if path.endswith(".md"):
-            rewrite(path, page)
+            rewrite(path, lambda text: lines(text, page))
 
 
 main()

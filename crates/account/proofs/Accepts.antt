@@ -115,11 +115,11 @@ module _ {V : Type 0} where
 
   -- a question for a symbol
   module _ (work : ℕ) (x : Account V) where
-    abbrev Known_here : Variable → Type 0
-    Known_here v = KnownVariable x.instances.count x.witnesses.count (marks x.given) v
+    abbrev KnownHere : Variable → Type 0
+    KnownHere v = KnownVariable x.instances.count x.witnesses.count (marks x.given) v
 
     abbrev Asks : Variable → Type 0
-    Asks v = (j : LcIndex) → v ≡ SymbolicLc j → Known_here v → x.finished ≡ None → used_entries x ≤ capacity work
+    Asks v = (j : LcIndex) → v ≡ SymbolicLc j → KnownHere v → x.finished ≡ None → used_entries x ≤ capacity work
 
     not_asked : (v : Variable) → kind v < 4 → Asks v
     not_asked v lt j e = absurd (not_symbol v j lt e)
@@ -127,7 +127,7 @@ module _ {V : Type 0} where
     refusal_here : Variable → Option ℕ
     refusal_here v = variable_refusal x.instances.count x.witnesses.count (marks x.given) v
 
-    if_known_none : (v : Variable) (u : Option ℕ) → refusal_here v ≡ u → (Known_here v → work_refusal x.finished work x ≡ None) → if_known u (work_refusal x.finished work x) ≡ None
+    if_known_none : (v : Variable) (u : Option ℕ) → refusal_here v ≡ u → (KnownHere v → work_refusal x.finished work x ≡ None) → if_known u (work_refusal x.finished work x) ≡ None
     unfolding refusal_here
     if_known_none v None e h = h ((variables_refused _ _ _ v).known.0 e)
     if_known_none v (Some number) e h = refl

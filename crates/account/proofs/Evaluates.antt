@@ -29,10 +29,10 @@ module _ {V : Type 0} {m : Model V} (keeps : Keeps m) where
   abbrev none : Member
   none = m.ring.zero
 
-  getD_means : (xs : List V) (i : ℕ) → i < length xs → Means m (get_or (map Some xs) i None) (get_or (map m.stands xs) i none)
-  getD_means [] i h = absurd (omega arith)
-  getD_means (x ∷ xs) zero h = (x, refl, refl)
-  getD_means (x ∷ xs) (suc i) h = getD_means xs i (omega arith)
+  get_or_means : (xs : List V) (i : ℕ) → i < length xs → Means m (get_or (map Some xs) i None) (get_or (map m.stands xs) i none)
+  get_or_means [] i h = absurd (omega arith)
+  get_or_means (x ∷ xs) zero h = (x, refl, refl)
+  get_or_means (x ∷ xs) (suc i) h = get_or_means xs i (omega arith)
 
   module _ (instances witnesses : List V) where
     abbrev n : ℕ
@@ -51,7 +51,7 @@ module _ {V : Type 0} {m : Model V} (keeps : Keeps m) where
     read_means vs before e One k = kept_means keeps instances witnesses [] [] One k
     read_means vs before e (Instance i) k = kept_means keeps instances witnesses [] [] (Instance i) k
     read_means vs before e (Witness i) k = kept_means keeps instances witnesses [] [] (Witness i) k
-    read_means vs before e (SymbolicLc j) k = getD_means vs j.0 (omega (arith, k.0))
+    read_means vs before e (SymbolicLc j) k = get_or_means vs j.0 (omega (arith, k.0))
 
     filled_means : (given : List (Given V)) (vs : List V) (before : List Mark) → length before ≡ length vs → KnownAfter n w before given
         → (us : List V) × (filled_after m instances witnesses (map Some vs) (lists given) ≡ map Some us)

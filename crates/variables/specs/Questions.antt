@@ -4,40 +4,40 @@ use Rattle.variables.specs.declared.LcIndex.{LcIndex}
 use Rattle.variables.specs.declared.Variable.{Variable}
 use Rattle.variables.specs.declared.Variable.TheVariants.{Zero, One, Instance, Witness, SymbolicLc}
 
-abbrev pub zero? : Variable → Bool
-zero? Zero = true
-zero? One = false
-zero? (Instance i) = false
-zero? (Witness i) = false
-zero? (SymbolicLc k) = false
+abbrev pub is_zero : Variable → Bool
+is_zero Zero = true
+is_zero One = false
+is_zero (Instance i) = false
+is_zero (Witness i) = false
+is_zero (SymbolicLc k) = false
 
-abbrev pub one? : Variable → Bool
-one? Zero = false
-one? One = true
-one? (Instance i) = false
-one? (Witness i) = false
-one? (SymbolicLc k) = false
+abbrev pub is_one : Variable → Bool
+is_one Zero = false
+is_one One = true
+is_one (Instance i) = false
+is_one (Witness i) = false
+is_one (SymbolicLc k) = false
 
-abbrev pub instance? : Variable → Bool
-instance? Zero = false
-instance? One = false
-instance? (Instance i) = true
-instance? (Witness i) = false
-instance? (SymbolicLc k) = false
+abbrev pub is_instance : Variable → Bool
+is_instance Zero = false
+is_instance One = false
+is_instance (Instance i) = true
+is_instance (Witness i) = false
+is_instance (SymbolicLc k) = false
 
-abbrev pub witness? : Variable → Bool
-witness? Zero = false
-witness? One = false
-witness? (Instance i) = false
-witness? (Witness i) = true
-witness? (SymbolicLc k) = false
+abbrev pub is_witness : Variable → Bool
+is_witness Zero = false
+is_witness One = false
+is_witness (Instance i) = false
+is_witness (Witness i) = true
+is_witness (SymbolicLc k) = false
 
-abbrev pub symbol? : Variable → Bool
-symbol? Zero = false
-symbol? One = false
-symbol? (Instance i) = false
-symbol? (Witness i) = false
-symbol? (SymbolicLc k) = true
+abbrev pub is_lc : Variable → Bool
+is_lc Zero = false
+is_lc One = false
+is_lc (Instance i) = false
+is_lc (Witness i) = false
+is_lc (SymbolicLc k) = true
 
 abbrev pub lc_index : Variable → Option LcIndex
 lc_index Zero = None

@@ -3,7 +3,7 @@
 // Variables, terms and lists of terms: the types, and the definitions and laws that everything above is promised with.
 ghost use Rattle.std.specs.Prelude.{◌≡◌};
 ghost use Rattle.variables.specs.Order.{below, Ordered};
-ghost use Rattle.variables.specs.Questions.{zero?, one?, instance?, witness?, symbol?, lc_index, column_of};
+ghost use Rattle.variables.specs.Questions.{is_zero, is_one, is_instance, is_witness, is_lc, lc_index, column_of};
 ghost use Rattle.variables.specs.Terms.{term, once};
 ghost use Rattle.variables.specs.Laws.{Compacts, Adds, ListsWorth, MergesRise, Seeks, Evaluates};
 
@@ -63,31 +63,31 @@ pub enum Refusal {
 
 impl Variable {
     pub fn is_zero(self) -> bool
-        ensures { result ≡ zero? self }
+        ensures { result ≡ is_zero self }
     {
         matches!(self, Variable::Zero)
     }
 
     pub fn is_one(self) -> bool
-        ensures { result ≡ one? self }
+        ensures { result ≡ is_one self }
     {
         matches!(self, Variable::One)
     }
 
     pub fn is_instance(self) -> bool
-        ensures { result ≡ instance? self }
+        ensures { result ≡ is_instance self }
     {
         matches!(self, Variable::Instance(_))
     }
 
     pub fn is_witness(self) -> bool
-        ensures { result ≡ witness? self }
+        ensures { result ≡ is_witness self }
     {
         matches!(self, Variable::Witness(_))
     }
 
     pub fn is_lc(self) -> bool
-        ensures { result ≡ symbol? self }
+        ensures { result ≡ is_lc self }
     {
         matches!(self, Variable::SymbolicLc(_))
     }
