@@ -92,6 +92,15 @@ OTHERWISE = {
     "symbol?": "is_lc",
     "Known_here": "KnownHere",
     "getD_means": "get_or_means",
+    # lemmas that were named by words of the library that it has renamed
+    "nth-copied": "slice_get_copied",
+    "nth-means": "slice_get_means",
+    "nth-none": "slice_get_none",
+    "nth-there": "slice_get_there",
+    "leading-passes": "prefix_len_passes",
+    "leading-stops": "prefix_len_stops",
+    "inserted-cut": "insert_cut",
+    "inserted-worth": "insert_worth",
 }
 
 # Words of the library that were imported under another word of it.

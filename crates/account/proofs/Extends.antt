@@ -13,8 +13,8 @@ use Rattle.account.proofs.Sounds.{fresh_means}
 use Rattle.account.proofs.Values.{open_means, closed}
 
 -- an element, wherever the list goes on
-pub nth_there : {X : Type 0} (xs : List X) (x : X) (ys : List X) → slice_get (xs ++ x ∷ ys) (length xs) ≡ Some x
-nth_there xs x ys = slice_get-get_or (xs ++ x ∷ ys) (length xs) x (omega (arith, length-append xs (x ∷ ys))) ∙ ap Some (get_or_at xs x ys x (length xs) refl)
+pub slice_get_there : {X : Type 0} (xs : List X) (x : X) (ys : List X) → slice_get (xs ++ x ∷ ys) (length xs) ≡ Some x
+slice_get_there xs x ys = slice_get-get_or (xs ++ x ∷ ys) (length xs) x (omega (arith, length-append xs (x ∷ ys))) ∙ ap Some (get_or_at xs x ys x (length xs) refl)
 
 -- a list goes on
 more_same : {X : Type 0} (xs : List X) → (more : List X) × (xs ≡ xs ++ more)

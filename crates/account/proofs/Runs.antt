@@ -23,7 +23,7 @@ use Rattle.account.specs.Promise.{Accepted, Faithful, Writes, AnyRefusals}
 use Rattle.account.proofs.ReadsBack.{read_back}
 use Rattle.account.proofs.Finalises.{one_each}
 use Rattle.account.proofs.Sounds.{Sound, opened_sound, sound_changed, log_counts}
-use Rattle.account.proofs.Extends.{nth_there, Extends, run_extends}
+use Rattle.account.proofs.Extends.{slice_get_there, Extends, run_extends}
 use Rattle.account.proofs.Values.{finished_means, Right, opened_right, right_changed, value_means, check_keeps, check_right, check_marlin}
 
 abbrev Constraints : Type 0 → Type 0
@@ -188,7 +188,7 @@ module _ {V : Type 0} where
           let same : v ≡ SymbolicLc (record { 0 = length x.given }) = cc in
           let more = h.grows.given in
           let whole : (account m log).given ≡ x.given ++ marked Plain ts ∷ more.0 = more.1 ∙ append_assoc x.given (marked Plain ts ∷ []) more.0 in
-          (length x.given, same, ap (λ l. slice_get l (length x.given)) whole ∙ nth_there x.given (marked Plain ts) more.0)
+          (length x.given, same, ap (λ l. slice_get l (length x.given)) whole ∙ slice_get_there x.given (marked Plain ts) more.0)
 
       kept_one : (mode : SynthesisMode) (value : V) → KeepsValues mode → kept_value mode (Some value) ≡ value ∷ []
       kept_one Setup value k = absurd k
@@ -204,7 +204,7 @@ module _ {V : Type 0} where
           let keep : KeepsValues x.mode = subst KeepsValues (h.grows.mode (inl (omega arith))) k in
           let whole : (account m log).instances.kept ≡ x.instances.kept ++ value ∷ more.0
           = more.1 ∙ ap (λ l. (x.instances.kept ++ l) ++ more.0) (kept_one x.mode value keep) ∙ append_assoc x.instances.kept (value ∷ []) more.0 in
-          (x.instances.count, same, ap₂ slice_get whole (sym (h.sound.instances_kept keep)) ∙ nth_there x.instances.kept value more.0)
+          (x.instances.count, same, ap₂ slice_get whole (sym (h.sound.instances_kept keep)) ∙ slice_get_there x.instances.kept value more.0)
 
       met_witness : (value : V) (v : Variable) → Met log past (new_witness_variable (Ok value)) (named v) → KeepsValues (account m log).mode
           → (i : ℕ) × (v ≡ Witness i) × (slice_get (account m log).witnesses.kept i ≡ Some value)
@@ -215,7 +215,7 @@ module _ {V : Type 0} where
           let keep : KeepsValues x.mode = subst KeepsValues (h.grows.mode (inr (omega arith))) k in
           let whole : (account m log).witnesses.kept ≡ x.witnesses.kept ++ value ∷ more.0
           = more.1 ∙ ap (λ l. (x.witnesses.kept ++ l) ++ more.0) (kept_one x.mode value keep) ∙ append_assoc x.witnesses.kept (value ∷ []) more.0 in
-          (x.witnesses.count, same, ap₂ slice_get whole (sym (h.sound.witnesses_kept keep)) ∙ nth_there x.witnesses.kept value more.0)
+          (x.witnesses.count, same, ap₂ slice_get whole (sym (h.sound.witnesses_kept keep)) ∙ slice_get_there x.witnesses.kept value more.0)
 
     same_checks : (log past past' : List (Event V)) (work work' : ℕ) (answer answer' : Option ℕ)
         → Met log past (which_is_unsatisfied work) (unsatisfied answer) → Met log past' (which_is_unsatisfied work') (unsatisfied answer')

@@ -1,5 +1,5 @@
 -- What is promised of lists and of finalising them, for every field that keeps the laws. Assumes nothing.
-use Rattle.std.specs.Prelude.{◌≡◌, ℕ, ◌+◌, ◌*◌, ◌<◌, ◌≤◌, ◌⊎◌, ◌↔◌, List, [], ◌∷◌, ◌++◌, map, length, get_or, take, Some, None, Ok, Err, Option, ◌≢◌, slice_index_or}
+use Rattle.std.specs.Prelude.{◌≡◌, ℕ, ◌+◌, ◌*◌, ◌<◌, ◌≤◌, ◌⊎◌, ◌↔◌, List, [], ◌∷◌, ◌++◌, map, length, take, Some, None, Ok, Err, Option, ◌≢◌, slice_index_or}
 use Rattle.std.specs.List.{AllByRecursion, slice_get}
 use Rattle.field.specs.Laws.{Model}
 use Rattle.variables.specs.declared.Variable.{Variable}
@@ -93,7 +93,7 @@ module _ {V : Type 0} (m : Model V) where
 
   -- the worth of each of `combinations` at the original part of a vector
   abbrev pub combination_worths : ℕ → List (Given V) → List ℕ → List Member → List Member
-  combination_worths n given combinations original = map (λ k. get_or (worths m n original (lists given)) k zero) combinations
+  combination_worths n given combinations original = map (λ k. slice_index_or (worths m n original (lists given)) k zero) combinations
 
   -- Every vector that begins with one satisfies these rows of cells, by Marlin's condition, exactly when its original part satisfies every
   -- constraint as written and each added witness equals the combination it stands for.

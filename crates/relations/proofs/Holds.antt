@@ -136,9 +136,9 @@ module _ {V : Type 0} where
       (λ _. cond_both (first_is v (drop s ts)) _ _ goal (λ _ (e : ◌≡◌ {A = Result ℕ ℕ} (Ok s) (Err i)). let z : ◌≡◌ {A = ℕ} 0 1 = cc in omega arith) (λ _. free))
 
   -- a term inserted into a part that has one place more than the list
-  pub inserted_cut : (len n at : ℕ) (t : Term V) (xs : List (Term V)) → n ≡ min len (length xs) → n < length xs → at ≤ n
+  pub insert_cut : (len n at : ℕ) (t : Term V) (xs : List (Term V)) → n ≡ min len (length xs) → n < length xs → at ≤ n
       → take (length (take (n + 1 - 0) xs)) (insert (take (n + 1 - 0) xs) at t) ≡ insert (take len xs) at t
-  inserted_cut len n at t xs e lt le =
+  insert_cut len n at t xs e lt le =
       let k : n + 1 - 0 ≡ n + 1 = omega arith in
       let short : length (take n xs) ≡ n = length-take-le n xs (omega arith) in
       let x = get_or xs n t in

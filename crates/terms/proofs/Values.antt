@@ -13,9 +13,9 @@ use Rattle.variables.specs.Evaluate.{accumulated, evaluated_from}
 use Rattle.variables.proofs.Evaluates.{from_none}
 
 -- what `get` lends, copied
-pub nth_copied : {X : Type 0} (xs : List X) (i : ℕ) (r : Option (Bor X)) → MatchOption r (length xs ≤ i) (λ x. (i < length xs) × HoldsAt (λ y. x.now ≡ y) xs i) → option_map (λ x. x.now) r ≡ slice_get xs i
-nth_copied xs i None h = sym (slice_get_past xs i h)
-nth_copied xs i (Some x) h = ap Some (h.1 x.now) ∙ sym (slice_get-get_or xs i x.now h.0)
+pub slice_get_copied : {X : Type 0} (xs : List X) (i : ℕ) (r : Option (Bor X)) → MatchOption r (length xs ≤ i) (λ x. (i < length xs) × HoldsAt (λ y. x.now ≡ y) xs i) → option_map (λ x. x.now) r ≡ slice_get xs i
+slice_get_copied xs i None h = sym (slice_get_past xs i h)
+slice_get_copied xs i (Some x) h = ap Some (h.1 x.now) ∙ sym (slice_get-get_or xs i x.now h.0)
 
 module _ {V : Type 0} (ts : List (Term V)) (i : ℕ) where
   here : (t : Term V) → i < length ts → t ≡ get_or ts i t → drop i ts ≡ t ∷ drop (i + 1) ts

@@ -14,10 +14,10 @@ use Rattle.variables.specs.Worth.{value, worth}
 use Rattle.variables.specs.Evaluate.{SymbolFree, read, accumulated, evaluated_from, evaluated}
 use Rattle.variables.specs.Laws.{Means, Evaluates}
 
-nth_none : {X : Type 0} (xs : List X) (i : ℕ) → (i < length xs → ⊥) → slice_get xs i ≡ None
-nth_none [] i h = refl
-nth_none (x ∷ xs) zero h = absurd (h (omega arith))
-nth_none (x ∷ xs) (suc i) h = nth_none xs i (λ k. h (omega arith))
+slice_get_none : {X : Type 0} (xs : List X) (i : ℕ) → (i < length xs → ⊥) → slice_get xs i ≡ None
+slice_get_none [] i h = refl
+slice_get_none (x ∷ xs) zero h = absurd (h (omega arith))
+slice_get_none (x ∷ xs) (suc i) h = slice_get_none xs i (λ k. h (omega arith))
 
 module _ {V : Type 0} (m : Model V) where
   accumulated_none : (o : Option V) (k : V) → accumulated m o k None ≡ None
@@ -39,8 +39,8 @@ module _ {V : Type 0} (m : Model V) where
     not_read : (v : Variable) → (SymbolFree (length instances) (length witnesses) v → ⊥) → read m instances witnesses [] v ≡ None
     not_read Zero h = absurd (h tt)
     not_read One h = absurd (h tt)
-    not_read (Instance i) h = nth_none instances i h
-    not_read (Witness i) h = nth_none witnesses i h
+    not_read (Instance i) h = slice_get_none instances i h
+    not_read (Witness i) h = slice_get_none witnesses i h
     not_read (SymbolicLc k) h = refl
 
 module _ {V : Type 0} {m : Model V} (keeps : Keeps m) where
@@ -49,10 +49,10 @@ module _ {V : Type 0} {m : Model V} (keeps : Keeps m) where
   abbrev none : Member
   none = m.ring.zero
 
-  nth_means : (xs : List V) (i : ℕ) → i < length xs → Means m (slice_get xs i) (get_or (map m.stands xs) i none)
-  nth_means [] i h = absurd (omega arith)
-  nth_means (x ∷ xs) zero h = (x, refl, refl)
-  nth_means (x ∷ xs) (suc i) h = nth_means xs i (omega arith)
+  slice_get_means : (xs : List V) (i : ℕ) → i < length xs → Means m (slice_get xs i) (get_or (map m.stands xs) i none)
+  slice_get_means [] i h = absurd (omega arith)
+  slice_get_means (x ∷ xs) zero h = (x, refl, refl)
+  slice_get_means (x ∷ xs) (suc i) h = slice_get_means xs i (omega arith)
 
   -- one term more
   accumulated_means : (o value : Option V) (k : V) (a b : Member) → Means m o a → Means m value b → Means m (accumulated m o k value) (add a (mul (m.stands k) b))
@@ -98,8 +98,8 @@ module _ {V : Type 0} {m : Model V} (keeps : Keeps m) where
         → Means m (read m instances witnesses named v) (value m (length instances) z ws v)
     read_means named ws Zero k = (m.zero, refl, keeps.zero_stands)
     read_means named ws One k = (m.one, refl, keeps.one_stands)
-    read_means named ws (Instance i) k = subst (Means m (slice_get instances i)) (sym (at_instance i k)) (nth_means instances i k)
-    read_means named ws (Witness i) k = subst (Means m (slice_get witnesses i)) (sym (at_witness i)) (nth_means witnesses i k)
+    read_means named ws (Instance i) k = subst (Means m (slice_get instances i)) (sym (at_instance i k)) (slice_get_means instances i k)
+    read_means named ws (Witness i) k = subst (Means m (slice_get witnesses i)) (sym (at_witness i)) (slice_get_means witnesses i k)
     read_means named ws (SymbolicLc j) k = absurd k
 
   pub evaluates : Evaluates m

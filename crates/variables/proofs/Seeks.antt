@@ -8,23 +8,23 @@ use Rattle.variables.specs.Order.{below}
 use Rattle.variables.specs.Laws.{Seeks}
 
 module _ {X : Type 0} (p : X → Bool) where
-  leading_passes : (xs : List X) → AllByRecursion (λ x. p x ≡ true) (take (prefix_len p xs) xs)
-  leading_passes [] = tt
-  leading_passes (x ∷ xs) =
+  prefix_len_passes : (xs : List X) → AllByRecursion (λ x. p x ≡ true) (take (prefix_len p xs) xs)
+  prefix_len_passes [] = tt
+  prefix_len_passes (x ∷ xs) =
       ⊎_elim
-      (λ (e : p x ≡ true). rw (e, one-add) (e, leading_passes xs))
+      (λ (e : p x ≡ true). rw (e, one-add) (e, prefix_len_passes xs))
       (λ (e : p x ≡ false). rw e tt)
       (cases_Bool (p x))
 
-  leading_stops : (xs : List X) (d : X) → prefix_len p xs < length xs → p (get_or xs (prefix_len p xs) d) ≡ false
-  leading_stops [] d h = absurd (omega arith)
-  leading_stops (x ∷ xs) d h =
+  prefix_len_stops : (xs : List X) (d : X) → prefix_len p xs < length xs → p (get_or xs (prefix_len p xs) d) ≡ false
+  prefix_len_stops [] d h = absurd (omega arith)
+  prefix_len_stops (x ∷ xs) d h =
       ⊎_elim
-      (λ (e : p x ≡ true). let lt : prefix_len p (x ∷ xs) < length (x ∷ xs) = h in rw (e, one-add) (leading_stops xs d (let g = rw e at lt in omega arith)))
+      (λ (e : p x ≡ true). let lt : prefix_len p (x ∷ xs) < length (x ∷ xs) = h in rw (e, one-add) (prefix_len_stops xs d (let g = rw e at lt in omega arith)))
       (λ (e : p x ≡ false). rw e e)
       (cases_Bool (p x))
 
 pub seeks : {V : Type 0} → Seeks V
 seeks {V} v ts =
     let p : Term V → Bool = λ t. below t.variable v in
-    record { within = prefix_len-le-length p ts; before = leading_passes p ts; there = leading_stops p ts }
+    record { within = prefix_len-le-length p ts; before = prefix_len_passes p ts; there = prefix_len_stops p ts }

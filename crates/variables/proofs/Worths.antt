@@ -60,8 +60,8 @@ module _ {V : Type 0} {m : Model V} (keeps : Keeps m) where
         merged_worth (x ∷ xs) ys = before_worth x (merged f combine xs) (worth m at xs) (merged_worth xs) ys
 
     -- a term inserted anywhere
-    inserted_worth : (t : Term V) (i : ℕ) (ts : List (Term V)) → worth m at (take i ts ++ t ∷ drop i ts) ≡ add (each t) (worth m at ts)
-    inserted_worth t i ts =
+    insert_worth : (t : Term V) (i : ℕ) (ts : List (Term V)) → worth m at (take i ts ++ t ∷ drop i ts) ≡ add (each t) (worth m at ts)
+    insert_worth t i ts =
         append_worth (take i ts) (t ∷ drop i ts)
         ∙ plus_swap keeps.laws (worth m at (take i ts)) (each t) (worth m at (drop i ts))
         ∙ ap (add (each t)) (sym (append_worth (take i ts) (drop i ts)) ∙ ap (worth m at) (take-append-drop i ts))
@@ -83,8 +83,8 @@ module _ {V : Type 0} {m : Model V} (keeps : Keeps m) where
     added_worth t ts =
         let i = seek t.variable ts in
         let goal : Result ℕ ℕ → Type 0 = λ r. worth m at (added_at m r t ts) ≡ add (each t) (worth m at ts) in
-        cond_both (ltb (length ts) 6) _ _ goal (λ _. inserted_worth t i ts)
-        (λ _. cond_both (first_is t.variable (drop i ts)) _ _ goal (gained_worth t.number t.variable i ts) (λ _. inserted_worth t i ts))
+        cond_both (ltb (length ts) 6) _ _ goal (λ _. insert_worth t i ts)
+        (λ _. cond_both (first_is t.variable (drop i ts)) _ _ goal (gained_worth t.number t.variable i ts) (λ _. insert_worth t i ts))
 
   -- the opposite is minus one times
   minus_by : (x : V) → m.stands (m.minus x) ≡ mul (neg one) (m.stands x)

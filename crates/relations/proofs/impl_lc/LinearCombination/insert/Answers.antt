@@ -1,7 +1,7 @@
 use Rattle.std.proofs.Common.{◌+◌, ◌≤◌, take, refl, ◌∙◌, arith}
 use Rattle.std.specs.List.{insert}
 use Rattle.std.proofs.lemmas.List.Edits.{length-insert}
-use Rattle.relations.proofs.Holds.{put_fits, put_short, inserted_cut, length_part}
+use Rattle.relations.proofs.Holds.{put_fits, put_short, insert_cut, length_part}
 use Rattle.relations.proofs.impl_lc.LinearCombination.insert.Goals as goal
 
 pub returns-then-n-self : goal.returns-then-n-self
@@ -23,5 +23,5 @@ returns g c =
     record {
       place = refl;
       does = put_fits (insert list c.args.at c.args.term) c.insert.new.terms lc.len (n + 1) xs
-          (omega (arith, length-insert list c.args.at c.args.term c.requires)) (omega arith) (c.insert.ensures ∙ inserted_cut lc.len n c.args.at c.args.term xs c.in_use-n.ensures (omega arith) le);
+          (omega (arith, length-insert list c.args.at c.args.term c.requires)) (omega arith) (c.insert.ensures ∙ insert_cut lc.len n c.args.at c.args.term xs c.in_use-n.ensures (omega arith) le);
     }
