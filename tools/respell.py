@@ -111,8 +111,6 @@ ALIASES = {
 
 
 def respelled(name):
-    if name in OTHERWISE:
-        return OTHERWISE[name]
     if name[0].isupper():
         return "".join(word[0].upper() + word[1:] for word in name.split("-"))
     return name.replace("-", "_")
@@ -176,7 +174,8 @@ def main():
             elif file.endswith(".rt"):
                 rewrite(path, lambda text: lines(text, lambda line: code(line, RATTLE_COMMENT)))
     for path in ["README.md"] + sorted(os.path.join("docs", file) for file in os.listdir("docs")):
-        if path.endswith(".md"):
+        # The page on the port cites the names as they were.
+        if path.endswith(".md") and path != "docs/PORT.md":
             rewrite(path, lambda text: lines(text, page))
 
 
