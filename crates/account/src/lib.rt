@@ -47,97 +47,76 @@ pub enum SynthesisError {
 
 // What known lists are worth in rising order is the one way to give each symbol the worth of its list, and following symbols comes to
 // the same.
-pub fn worth_has_one_meaning<F: Field>() -> u8
+pub fn worth_has_one_meaning<F: Field>()
     ensures { WorthsMeant F.model }
-{
-    0
-}
+{}
 
 // A term is refused exactly where its variable is not known, and a list by its first such term.
-pub fn refused_terms_are_unknown<F: Field>() -> u8
+#[tactic(auto, using(crate::proofs::Refuses::variables_refused, crate::proofs::Refuses::lists_refused))]
+pub fn refused_terms_are_unknown<F: Field>()
     ensures variables { VariablesRefused }
     ensures lists { ListsRefused F }
-{
-    0
-}
+{}
 
 // A circuit is opened exactly where there is a place for the first instance, and a call is accepted exactly where its conditions hold.
-pub fn accepted_calls_meet_their_conditions<F: Field>() -> u8
+#[tactic(auto, using(crate::proofs::Accepts::accepted_when, crate::proofs::Accepts::opened_when))]
+pub fn accepted_calls_meet_their_conditions<F: Field>()
     ensures opening { OpenedWhen }
     ensures calls { AcceptedWhen F.model }
-{
-    0
-}
+{}
 
 // Two answers to one check are the same.
-pub fn checks_have_one_answer<F: Field>() -> u8
+pub fn checks_have_one_answer<F: Field>()
     ensures { OneAnswer F.model }
-{
-    0
-}
+{}
 
 // Under a vector that begins with one, the matrices of rows without symbols fail Marlin's condition first at the row that fails first by
 // worth; and what is written of rows is read back.
-pub fn matrices_fail_where_rows_do<F: Field>() -> u8
+pub fn matrices_fail_where_rows_do<F: Field>()
     ensures failing { MatricesExact F.model }
     ensures written { ReadBack F.model }
-{
-    0
-}
+{}
 
 // Whatever rule picks the lists to outline, the finished rows hold no symbol and number the constraints plus the added witnesses.
-pub fn finished_rows_hold_no_symbol<F: Field>() -> u8
+pub fn finished_rows_hold_no_symbol<F: Field>()
     ensures { Finalised F.model (λ n w given cs finished combinations. WellFormed n w given cs finished combinations) }
-{
-    0
-}
+{}
 
 // Whatever rule picks the lists to outline, a vector that begins with one satisfies the finished rows exactly when its original part
 // satisfies every constraint as written and each added witness equals the combination it stands for.
-pub fn finished_rows_admit_what_was_written<F: Field>() -> u8
+pub fn finished_rows_admit_what_was_written<F: Field>()
     ensures { Finalised F.model (Exact F.model) }
-{
-    0
-}
+{}
 
 // Whatever rule picks the lists to outline, and where each added witness has the worth of its combination, the finished rows are worth
 // what the constraints are as written, and so fail first where these do; the added rows hold.
-pub fn finished_rows_fail_where_constraints_do<F: Field>() -> u8
+pub fn finished_rows_fail_where_constraints_do<F: Field>()
     ensures { Finalised F.model (FailsAlike F.model) }
-{
-    0
-}
+{}
 
 // Finalising in the places that there are gives the lists that it gives without bound, and says how many places it takes; it is refused
 // by 14, 12 or 13 alone, and exactly where it does not find its places.
-pub fn finalising_takes_its_places<F: Field>() -> u8
+pub fn finalising_takes_its_places<F: Field>()
     ensures taken { PlacesTaken F.model }
     ensures refused { PlacesRefused F.model }
     ensures suffice { PlacesSuffice F.model }
-{
-    0
-}
+{}
 
 // Where every value is kept, what is worked out for each list and for each added witness stands for what the list is worth.
-pub fn kept_values_stand_for_worths<F: Field>() -> u8
+pub fn kept_values_stand_for_worths<F: Field>()
     ensures work { WorkStands F.model }
     ensures added { AddedStand F.model }
-{
-    0
-}
+{}
 
 // The main promise, of calls on a circuit just opened. `refusals`: of every log whose accepted calls were allowed and answered from the
 // account, whichever others were refused. `runs`: of the run that any calls make over lent tables of any lengths.
-pub fn every_run_keeps_the_promise<F: Field>() -> u8
+pub fn every_run_keeps_the_promise<F: Field>()
     ensures refusals { AnyRefusals F.model }
     ensures runs { EveryRun F.model }
-{
-    0
-}
+{}
 
 // Tables in which a circuit could be opened fit it at every moment of a run, and no call is refused by 17.
-pub fn tables_fit_every_run<F: Field>() -> u8
+#[tactic(auto, using(crate::proofs::Fits::tables_fit))]
+pub fn tables_fit_every_run<F: Field>()
     ensures { TablesFit F.model }
-{
-    0
-}
+{}

@@ -5,97 +5,41 @@
 use field::Field;
 use gf8::Gf8;
 use p31::P31;
-use relations::{LcIndex, Refusal, Term, Variable};
+use relations::{LinearCombination, Term};
 use smoothing::smooth;
 use std::alloc::{AllocError, Global};
+use std::fmt::Display;
 use std::io::Read;
 
 const WIDTH: usize = 3;
 
-// The number by which a value is printed.
-trait Number: Field {
-    fn number(self) -> u32;
-}
-
-impl Number for P31 {
-    fn number(self) -> u32 {
-        self.value
-    }
-}
-
-impl Number for Gf8 {
-    fn number(self) -> u32 {
-        u32::from(self.value)
-    }
-}
-
-fn variable_text(heap: Global, variable: Variable) -> Result<String, AllocError> {
-    match variable {
-        Variable::Zero => String::from_str(heap, "z"),
-        Variable::One => String::from_str(heap, "o"),
-        Variable::Instance(i) => format!(in heap; "i{i}"),
-        Variable::Witness(i) => format!(in heap; "w{i}"),
-        Variable::SymbolicLc(LcIndex(k)) => format!(in heap; "s{k}"),
-    }
-}
-
-fn list_text<F: Number>(heap: Global, list: &[Term<F>]) -> Result<String, AllocError> {
-    let mut text = String::new(heap);
-    for term in list {
-        if !text.is_empty() {
-            text.push_str(" ")?;
-        }
-        let number = term.number.number();
-        let variable = variable_text(heap, term.variable)?;
-        let part = format!(in heap; "{number}*{variable}")?;
-        text.push_str(part.as_str())?;
-    }
-    Ok(text)
-}
-
-fn empty_places<F: Field>(heap: Global) -> Result<Vec<Term<F>>, AllocError> {
-    let mut places = Vec::new(heap);
-    for _ in 0..WIDTH {
-        places.push(Term {
-            number: F::zero(),
-            variable: Variable::Zero,
-        })?;
-    }
-    Ok(places)
-}
-
-fn show_windows<F: Number>(rt: &HostRuntime, readings: &[F]) -> anyhow::Result<()> {
-    let heap = rt.alloc();
-    let mut places = empty_places::<F>(heap)?;
+fn show_windows<F: Field + Display>(rt: &HostRuntime, readings: &[F]) -> anyhow::Result<()> {
+    let mut places = vec![in rt.alloc(); Term::default(); WIDTH]?;
     for first in 0..readings.len() {
         match smooth(readings, first, WIDTH, places.as_mut_slice()) {
             Ok(Some(worth)) => {
-                let list = list_text(heap, places.as_slice())?;
-                let worth = worth.number();
+                let list = LinearCombination::whole(places.as_mut_slice());
                 println!(rt; "window={first} lc={list} worth={worth}")?;
             }
             Ok(None) => {}
-            Err(Refusal::TableTooShort) => println!(rt; "refused=19")?,
+            Err(refusal) => println!(rt; "refused={}", refusal.number())?,
         }
     }
     Ok(())
 }
 
 fn readings(heap: Global, log: &str) -> anyhow::Result<Vec<P31>> {
-    let mut readings = Vec::new(heap);
-    for line in log.lines() {
-        let value = line.parse::<u32>()?;
-        readings.push(P31 { value })?;
-    }
-    Ok(readings)
+    log.lines()
+        .map(|line| -> anyhow::Result<P31> {
+            Ok(P31 {
+                value: line.parse::<u32>()?,
+            })
+        })
+        .try_collect(heap)
 }
 
-fn log_bytes(heap: Global, log: &str) -> anyhow::Result<Vec<Gf8>> {
-    let mut bytes = Vec::new(heap);
-    for value in log.bytes() {
-        bytes.push(Gf8 { value })?;
-    }
-    Ok(bytes)
+fn log_bytes(heap: Global, log: &str) -> Result<Vec<Gf8>, AllocError> {
+    log.bytes().map(|value| Gf8 { value }).collect(heap)
 }
 
 fn run(rt: &HostRuntime) -> anyhow::Result<()> {

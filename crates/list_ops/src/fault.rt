@@ -1,30 +1,58 @@
 // Why a line has no answer.
+use field::NotAMember;
 use relations::Refusal;
 use std::alloc::{AllocError, AllocFailed};
+use std::num::{ParseIntError, TryFromIntError};
+use std::str::Utf8Error;
 
 #[derive(Clone, Copy)]
 pub enum Fault {
     // the line is not of the form
     Malformed,
-    // the lent places are too short, which is refusal 19
-    TooShort,
-    Memory,
+    // the operation is refused
+    Refused(Refusal),
+    Memory(AllocError),
+}
+
+// what the library or a field cannot read, whichever error says so, is a line not of the form
+impl From<Utf8Error> for Fault {
+    fn from(_error: Utf8Error) -> Fault {
+        Fault::Malformed
+    }
+}
+
+impl From<ParseIntError> for Fault {
+    fn from(_error: ParseIntError) -> Fault {
+        Fault::Malformed
+    }
+}
+
+impl From<TryFromIntError> for Fault {
+    fn from(_error: TryFromIntError) -> Fault {
+        Fault::Malformed
+    }
+}
+
+impl From<NotAMember> for Fault {
+    fn from(_error: NotAMember) -> Fault {
+        Fault::Malformed
+    }
 }
 
 impl From<Refusal> for Fault {
-    fn from(_refusal: Refusal) -> Fault {
-        Fault::TooShort
+    fn from(refusal: Refusal) -> Fault {
+        Fault::Refused(refusal)
     }
 }
 
 impl From<AllocError> for Fault {
-    fn from(_error: AllocError) -> Fault {
-        Fault::Memory
+    fn from(error: AllocError) -> Fault {
+        Fault::Memory(error)
     }
 }
 
 impl<T: Drop> From<AllocFailed<T>> for Fault {
-    fn from(_refused: AllocFailed<T>) -> Fault {
-        Fault::Memory
+    fn from(failed: AllocFailed<T>) -> Fault {
+        Fault::Memory(AllocError::from(failed))
     }
 }

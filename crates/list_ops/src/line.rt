@@ -1,7 +1,10 @@
-// A line in its five parts.
+// A line in its five parts, and the heap that its answer is made on.
+use crate::fault::Fault;
+use std::alloc::Global;
 
-#[derive(Drop)]
+#[derive(Clone, Copy)]
 pub struct Line<'a> {
+    pub heap: Global,
     pub field: &'a str,
     pub operation: &'a str,
     pub argument: &'a str,
@@ -10,8 +13,8 @@ pub struct Line<'a> {
 }
 
 impl<'a> Line<'a> {
-    // None where there are fewer parts or more.
-    pub(crate) fn read(text: &'a str) -> Option<Line<'a>> {
+    // None where there are fewer parts or more: the one fault that there is, so an `Option` says all.
+    pub(crate) fn read(heap: Global, text: &'a str) -> Option<Line<'a>> {
         let (field, rest) = text.split_once(';')?;
         let (operation, rest) = rest.split_once(';')?;
         let (argument, rest) = rest.split_once(';')?;
@@ -20,11 +23,21 @@ impl<'a> Line<'a> {
             return None;
         }
         Some(Line {
+            heap,
             field,
             operation,
             argument,
             left,
             right,
         })
+    }
+}
+
+// A part that the operation does not take.
+pub(crate) fn unused(part: &str) -> Result<(), Fault> {
+    if part.is_empty() {
+        Ok(())
+    } else {
+        Err(Fault::Malformed)
     }
 }

@@ -8,6 +8,7 @@ mod number;
 mod operation;
 mod parse;
 mod show;
+mod work;
 
 use std::io;
 use std::io::{BufRead, BufReader, BufWriter, Write};

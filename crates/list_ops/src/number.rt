@@ -1,39 +1,13 @@
-// The numbers of the two fields.
-use field::Field;
+// A field whose members are read and printed as numbers.
+use field::{Field, NotAMember};
 use gf8::Gf8;
 use p31::P31;
+use std::fmt::Display;
 
-pub trait Number: Field {
-    // None where the number is not one of the field's.
-    fn from_number(n: u64) -> Option<Self>;
+pub trait Number: Field + TryFrom<u64, Error = NotAMember> + Display {}
 
-    fn number(self) -> u64;
-}
+// one for each: with one for every such type a call at `P31` gets no proof ("a type names a struct or an enum that its function's table
+// lacks")
+impl Number for P31 {}
 
-impl Number for P31 {
-    fn from_number(n: u64) -> Option<P31> {
-        if n < 2147483647 {
-            Some(P31 { value: n as u32 })
-        } else {
-            None
-        }
-    }
-
-    fn number(self) -> u64 {
-        u64::from(self.value)
-    }
-}
-
-impl Number for Gf8 {
-    fn from_number(n: u64) -> Option<Gf8> {
-        if n < 256 {
-            Some(Gf8 { value: n as u8 })
-        } else {
-            None
-        }
-    }
-
-    fn number(self) -> u64 {
-        u64::from(self.value)
-    }
-}
+impl Number for Gf8 {}

@@ -5,52 +5,47 @@ use relations::{LcIndex, Term, Variable};
 use std::alloc::Global;
 
 // Decimal digits alone, with no sign.
-fn digits(text: &str) -> Option<u64> {
+fn natural(text: &str) -> Result<u64, Fault> {
     if text.starts_with('+') {
-        return None;
+        return Err(Fault::Malformed);
     }
-    text.parse::<u64>().ok()
+    Ok(text.parse::<u64>()?)
 }
 
-fn index(text: &str) -> Option<usize> {
-    Some(digits(text)? as usize)
+fn index(text: &str) -> Result<usize, Fault> {
+    Ok(usize::try_from(natural(text)?)?)
 }
 
-pub(crate) fn number<F: Number>(text: &str) -> Option<F> {
-    F::from_number(digits(text)?)
+pub(crate) fn number<F: Number>(text: &str) -> Result<F, Fault> {
+    Ok(F::try_from(natural(text)?)?)
 }
 
-pub(crate) fn variable(text: &str) -> Option<Variable> {
-    match text {
-        "z" => return Some(Variable::Zero),
-        "o" => return Some(Variable::One),
-        _ => {}
+pub(crate) fn variable(text: &str) -> Result<Variable, Fault> {
+    let mut rest = text.chars();
+    match (rest.next(), rest.as_str()) {
+        (Some('z'), "") => Ok(Variable::Zero),
+        (Some('o'), "") => Ok(Variable::One),
+        (Some('i'), n) => Ok(Variable::Instance(index(n)?)),
+        (Some('w'), n) => Ok(Variable::Witness(index(n)?)),
+        (Some('s'), n) => Ok(Variable::SymbolicLc(LcIndex(index(n)?))),
+        _ => Err(Fault::Malformed),
     }
-    if let Some(rest) = text.strip_prefix('i') {
-        return Some(Variable::Instance(index(rest)?));
-    }
-    if let Some(rest) = text.strip_prefix('w') {
-        return Some(Variable::Witness(index(rest)?));
-    }
-    let rest = text.strip_prefix('s')?;
-    Some(Variable::SymbolicLc(LcIndex(index(rest)?)))
 }
 
-pub(crate) fn term<F: Number>(text: &str) -> Option<Term<F>> {
-    let (front, back) = text.split_once('*')?;
-    let number = number(front)?;
-    let variable = variable(back)?;
-    Some(Term { number, variable })
+pub(crate) fn term<F: Number>(text: &str) -> Result<Term<F>, Fault> {
+    let (front, back) = text.split_once('*').ok_or(Fault::Malformed)?;
+    Ok(Term {
+        number: number(front)?,
+        variable: variable(back)?,
+    })
 }
 
 pub(crate) fn list<F: Number>(heap: Global, text: &str) -> Result<Vec<Term<F>>, Fault> {
-    let mut terms = Vec::new(heap);
     if text.is_empty() {
-        return Ok(terms);
+        return Ok(Vec::new(heap));
     }
-    for part in text.split(' ') {
-        let next = term(part).ok_or(Fault::Malformed)?;
-        terms.push(next)?;
-    }
-    Ok(terms)
+    // a closure: `term` itself, a function that answers values of a type parameter, cannot yet be passed
+    text.split(' ')
+        .map(|part| -> Result<Term<F>, Fault> { term(part) })
+        .try_collect(heap)
 }

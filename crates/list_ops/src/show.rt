@@ -1,53 +1,9 @@
 // Answers as text.
-use crate::number::Number;
-use relations::{LcIndex, Term, Variable};
+use relations::{LcIndex, Variable};
+use std::cmp::Ordering;
 use std::fmt;
 
-#[derive(Drop)]
-struct Named(Variable);
-
-impl fmt::Display for Named {
-    fn fmt<W: fmt::Write>(&self, f: &mut fmt::Formatter<W>) -> fmt::Result {
-        match self.0 {
-            Variable::Zero => f.write_str("z"),
-            Variable::One => f.write_str("o"),
-            Variable::Instance(i) => write!(f, "i{i}"),
-            Variable::Witness(i) => write!(f, "w{i}"),
-            Variable::SymbolicLc(LcIndex(i)) => write!(f, "s{i}"),
-        }
-    }
-}
-
-// Terms with one space between them.
-#[derive(Drop)]
-pub struct Listed<'a, F>(pub &'a [Term<F>]);
-
-impl<F: Number> fmt::Display for Listed<'_, F> {
-    fn fmt<W: fmt::Write>(&self, f: &mut fmt::Formatter<W>) -> fmt::Result {
-        let mut between = "";
-        for t in self.0 {
-            let number = t.number.number();
-            let variable = Named(t.variable);
-            write!(f, "{between}{number}*{variable}")?;
-            between = " ";
-        }
-        Ok(())
-    }
-}
-
-// Where a variable stands, or where it may be inserted.
-#[derive(Drop)]
-pub struct Located(pub Result<usize, usize>);
-
-impl fmt::Display for Located {
-    fn fmt<W: fmt::Write>(&self, f: &mut fmt::Formatter<W>) -> fmt::Result {
-        match self.0 {
-            Ok(at) => write!(f, "found {at}"),
-            Err(at) => write!(f, "free {at}"),
-        }
-    }
-}
-
+// A number, or the word none: an `Option` does not print.
 #[derive(Drop)]
 struct Perhaps(Option<usize>);
 
@@ -60,22 +16,9 @@ impl fmt::Display for Perhaps {
     }
 }
 
-// What a variable answers to each question, the last with seven instances.
+// What a variable answers to each question, the last with seven instances: a line of this program alone, for which nothing is derived.
 #[derive(Drop)]
 pub struct Asked(pub Variable);
-
-impl Asked {
-    fn lc_index(&self) -> Perhaps {
-        match self.0.get_lc_index() {
-            Some(LcIndex(i)) => Perhaps(Some(i)),
-            None => Perhaps(None),
-        }
-    }
-
-    fn index(&self) -> Perhaps {
-        Perhaps(self.0.get_index_unchecked(7))
-    }
-}
 
 impl fmt::Display for Asked {
     fn fmt<W: fmt::Write>(&self, f: &mut fmt::Formatter<W>) -> fmt::Result {
@@ -85,19 +28,17 @@ impl fmt::Display for Asked {
         let witness = u8::from(self.0.is_witness());
         let lc = u8::from(self.0.is_lc());
         write!(f, "{zero} {one} {instance} {witness} {lc} ")?;
-        let lc_index = self.lc_index();
-        let index = self.index();
+        let lc_index = Perhaps(self.0.get_lc_index().map(|LcIndex(k)| k));
+        let index = Perhaps(self.0.get_index_unchecked(7));
         write!(f, "{lc_index} {index}")
     }
 }
 
 // The order of two variables in a word.
-pub(crate) fn order(first: Variable, second: Variable) -> &'static str {
-    if first.is_below(second) {
-        "less"
-    } else if second.is_below(first) {
-        "greater"
-    } else {
-        "equal"
+pub(crate) fn order(order: Ordering) -> &'static str {
+    match order {
+        Ordering::Less => "less",
+        Ordering::Equal => "equal",
+        Ordering::Greater => "greater",
     }
 }

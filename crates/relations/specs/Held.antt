@@ -7,7 +7,7 @@ use Rattle.variables.specs.Terms.{nothing}
 use Rattle.variables.specs.Refusals.{Told, answered, refused}
 use Rattle.relations.specs.declared.impl_lc.LinearCombination.{LinearCombination}
 
--- the list: the first `len` places, or all where there are fewer
+-- the list: the first `len` places, which the type keeps to be no more than there are
 abbrev pub listed : {V : Type 0} → LinearCombination V → List (Term V)
 listed c = take c.len c.terms.now
 

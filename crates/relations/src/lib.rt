@@ -3,9 +3,10 @@
 // Linear combinations over lent places: variables, terms, the list under work, and what is proved of lists. The names follow module r1cs
 // of ark-relations.
 mod impl_lc;
+mod text;
 
 pub use impl_lc::LinearCombination;
-pub use variables::{LcIndex, Refusal, Term, Variable};
+pub use variables::{Assignment, LcIndex, Refusal, Term, Variable};
 // the theorems
 pub use variables::{
     adding_places, compactify_keeps, evaluation_stands, lists_are_worth, merges_rise,

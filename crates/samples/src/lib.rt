@@ -5,10 +5,10 @@
 
 #[cfg(test)]
 mod tests {
-    use field::Field;
+    use field::{Field, NotAMember};
     use gf8::Gf8;
     use p31::P31;
-    use relations::{LinearCombination, Refusal, Term, Variable};
+    use relations::{Assignment, LcIndex, LinearCombination, Refusal, Term, Variable};
     use std::test::Fail;
 
     fn byte(value: u8) -> Gf8 {
@@ -34,18 +34,13 @@ mod tests {
         Variable::Witness(number)
     }
 
+    // by the numbers as they lie: P31 has no `==`, since two of them may stand for one member
+    fn plain(term: &Term<P31>) -> (u32, Variable) {
+        (term.number.value, term.variable)
+    }
+
     fn is(found: &[Term<P31>], expected: &[Term<P31>]) -> bool {
-        if found.len() != expected.len() {
-            return false;
-        }
-        for i in 0..found.len() {
-            if found[i].number.value != expected[i].number.value
-                || found[i].variable != expected[i].variable
-            {
-                return false;
-            }
-        }
-        true
+        found.iter().map(plain).eq(expected.iter().map(plain))
     }
 
     #[test]
@@ -104,7 +99,7 @@ mod tests {
                 &[term(1, one()), term(3, w(0)), term(2, w(0))],
             )
         );
-        assert_eq!(rt; list.add_variable(w(1)), Err(Refusal::TableTooShort));
+        assert_eq!(rt; list.add_term(w(1)), Err(Refusal::TableTooShort));
         assert!(rt;
             is(
                 list.terms(),
@@ -128,7 +123,7 @@ mod tests {
         assert_eq!(rt; list.get_var_loc(w(5)), Ok(5));
         assert_eq!(rt; list.get_var_loc(w(6)), Err(6));
         assert_eq!(rt; list.sub_term(term(3, w(5))), Ok(()));
-        assert_eq!(rt; list.add_variable(w(6)), Err(Refusal::TableTooShort));
+        assert_eq!(rt; list.add_term(w(6)), Err(Refusal::TableTooShort));
         assert!(rt;
             is(
                 list.terms(),
@@ -218,7 +213,7 @@ mod tests {
         list.mul_assign(residue(3));
         list.compactify();
         assert_eq!(rt; list.assign_sum(&[], &[]), Ok(()));
-        assert_eq!(rt; list.assign_variable(one()), Err(Refusal::TableTooShort));
+        assert_eq!(rt; list.assign_term(one()), Err(Refusal::TableTooShort));
         assert_eq!(rt; list.len(), 0);
         assert_eq!(rt; list.capacity(), 0);
     }
@@ -234,7 +229,11 @@ mod tests {
         list.mul_assign(byte(0x02));
         list.compactify();
         assert_eq!(rt; list.len(), 1);
-        let worth = list.worth(&[], &[byte(0x01)]).ok_or("not kept")?;
+        let kept = Assignment {
+            instances: &[],
+            witnesses: &[byte(0x01)],
+        };
+        let worth = list.worth(&kept).ok_or("not kept")?;
         assert_eq!(rt; worth.value, 0xb3);
         Ok(())
     }
@@ -247,11 +246,60 @@ mod tests {
             term(5, Variable::Instance(0)),
         ];
         let list = LinearCombination::whole(&mut places);
-        let worth = list
-            .worth(&[residue(7)], &[residue(1), residue(11)])
-            .ok_or("not kept")?;
+        let kept = Assignment {
+            instances: &[residue(7)],
+            witnesses: &[residue(1), residue(11)],
+        };
+        let worth = list.worth(&kept).ok_or("not kept")?;
         assert_eq!(rt; worth.value, 70);
-        assert!(rt; list.worth(&[residue(7)], &[residue(1)]).is_none());
+        let fewer = Assignment {
+            instances: &[residue(7)],
+            witnesses: &[residue(1)],
+        };
+        assert!(rt; list.worth(&fewer).is_none());
+        Ok(())
+    }
+
+    #[test]
+    fn numbers_of_members(rt: HostRuntime) {
+        assert_eq!(rt;
+            P31::try_from(2147483646u64).map(|a| a.value),
+            Ok(2147483646)
+        );
+        assert_eq!(rt;
+            P31::try_from(2147483647u64).map(|a| a.value),
+            Err(NotAMember(2147483647))
+        );
+        assert_eq!(rt;
+            P31::try_from(4294967296u64).map(|a| a.value),
+            Err(NotAMember(4294967296))
+        );
+        assert_eq!(rt; Gf8::try_from(255u64).map(|a| a.value), Ok(255));
+        assert_eq!(rt;
+            Gf8::try_from(256u64).map(|a| a.value),
+            Err(NotAMember(256))
+        );
+        assert_eq!(rt; Refusal::TableTooShort.number(), 19);
+    }
+
+    #[test]
+    fn lists_as_text(rt: HostRuntime) -> Result<(), Fail> {
+        let mut places = [
+            term(2147483646, Variable::Zero),
+            term(0, one()),
+            term(1, Variable::Instance(0)),
+            term(7, w(12)),
+            term(9, Variable::SymbolicLc(LcIndex(usize::MAX))),
+        ];
+        let list = LinearCombination::whole(&mut places);
+        let text = list.to_string(rt.alloc())?;
+        assert_eq!(rt;
+            text.as_str(),
+            "2147483646*z 0*o 1*i0 7*w12 9*s18446744073709551615"
+        );
+        let mut none: [Term<Gf8>; 0] = [];
+        let empty = LinearCombination::whole(&mut none).to_string(rt.alloc())?;
+        assert_eq!(rt; empty.as_str(), "");
         Ok(())
     }
 }

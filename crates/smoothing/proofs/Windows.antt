@@ -1,9 +1,9 @@
 -- A window gathered a reading at a time, and what it is worth. Assumes nothing.
-use Rattle.std.proofs.Common.{◌≡◌, ℕ, zero, suc, ◌+◌, ◌<◌, ◌≤◌, false, ltb, leb, List, [], ◌∷◌, ◌++◌, map, length, get_or, take, drop, Some, Ok, Err, Option, Result, sym, refl, ap, ◌∙◌, ap₂, zero-add, one-add, arith, take-append-drop}
+use Rattle.std.proofs.Common.{◌≡◌, ℕ, zero, suc, ◌+◌, ◌-◌, ◌<◌, ◌≤◌, false, List, [], ◌∷◌, ◌++◌, map, length, get_or, take, drop, Some, Ok, Err, Result, sym, refl, ap, ◌∙◌, ap₂, zero-add, one-add, arith}
 use Rattle.std.specs.List.{AllByRecursion}
 use Rattle.std.proofs.lemmas.List.FromFn.{length-map-range_with_len, map-range_with_len_more}
 use Rattle.std.proofs.lemmas.List.{take_all, drop_all, drop_at, drop-drop, drop_more, length-drop, get_or-map}
-use Rattle.std.proofs.lemmas.Bool.{cond_both, cond-true, cond-false, lt-ltb, le-leb}
+use Rattle.std.proofs.lemmas.Bool.{lt-ltb}
 use Rattle.field.specs.Laws.{Model, Keeps}
 use Rattle.field.proofs.Rings.{one_times}
 use Rattle.variables.specs.declared.Term.{Term}
@@ -12,14 +12,12 @@ use Rattle.variables.specs.Terms.{once}
 use Rattle.variables.specs.Worth.{value, worth}
 use Rattle.variables.specs.Locate.{seek, first_is, location, added_at, added}
 use Rattle.variables.specs.Evaluate.{SymbolFree, read, evaluated}
-use Rattle.variables.specs.Refusals.{Told}
+use Rattle.variables.specs.declared.Refusal.{Refusal}
+use Rattle.variables.specs.Refusals.{answered}
 use Rattle.variables.proofs.Evaluates.{evaluates}
-use Rattle.relations.specs.Held.{Held, Outcome, put}
-use Rattle.relations.proofs.Holds.{holding}
-use Rattle.smoothing.specs.Windows.{window, gathered, total}
-
-pub from_ok : {X : Type 0} (x y : X) → ◌≡◌ {A = Result X Told} (Ok x) (Ok y) → x ≡ y
-from_ok x y e = cc
+use Rattle.relations.specs.declared.impl_lc.LinearCombination.{LinearCombination}
+use Rattle.relations.specs.Held.{listed, Held, held, Outcome, put, Becomes}
+use Rattle.smoothing.specs.Windows.{window, total}
 
 module _ {V : Type 0} (m : Model V) where
   -- every reading of a window comes before the next one
@@ -32,9 +30,8 @@ module _ {V : Type 0} (m : Model V) where
       let w = window m a n in
       let v = Witness j in
       let s = seek_window a n j le in
-      let goal : Result ℕ ℕ → Type 0 = λ r. r ≡ Err n in
       let past : first_is v (drop (seek v w) w) ≡ false = ap (first_is v) (ap (λ k. drop k w) s ∙ drop_all n w (omega (arith, length-map-range_with_len (λ k. once m (Witness k)) a n))) in
-      cond_both (ltb (length w) 6) _ _ goal (λ _. ap Err s) (λ _. cond-false (first_is v (drop (seek v w) w)) _ _ past ∙ ap Err s)
+      grind arith
 
   added_window : (a n : ℕ) → added m (once m (Witness (a + n))) (window m a n) ≡ window m a (n + 1)
   added_window a n =
@@ -47,38 +44,35 @@ module _ {V : Type 0} (m : Model V) where
 
   -- one reading more
   put_window : (a n : ℕ) (p : List (Term V)) → n < length p
-      → put (added m (once m (Witness (a + n))) (window m a n)) (holding (window m a n) (drop n p)) ≡ record { answer = Ok tt; held = holding (window m a (n + 1)) (drop (n + 1) p) }
+      → put (added m (once m (Witness (a + n))) (window m a n)) (record { list = window m a n; spare = drop n p }) ≡ record { answer = Ok tt; held = record { list = window m a (n + 1); spare = drop (n + 1) p } }
   put_window a n p lt =
       let w = window m a n in
-      let next = window m a (n + 1) in
       let long = length-map-range_with_len (λ k. once m (Witness k)) a n in
       let more = length-map-range_with_len (λ k. once m (Witness k)) a (n + 1) in
-      let rest : drop (length next) (w ++ drop n p) ≡ drop (n + 1) p =
+      let rest : drop (length (window m a (n + 1))) (w ++ drop n p) ≡ drop (n + 1) p =
       ap (λ k. drop k (w ++ drop n p)) more ∙ sym (drop-drop 1 n (w ++ drop n p)) ∙ ap (drop 1) (drop_at w (drop n p) n long) ∙ drop-drop 1 n p in
-      ap (λ l. put l (holding w (drop n p))) (added_window a n)
-      ∙ cond-true (leb (length next) (length w + length (drop n p))) _ _ (le-leb (length next) (length w + length (drop n p)) (omega (arith, length-drop n p)))
-      ∙ (λ i. record { answer = Ok tt; held = holding next (rest i) })
+      ap (λ l. put l (record { list = w; spare = drop n p })) (added_window a n) ∙ grind (arith, length-drop)
 
-  -- the same, of what a list held and of what came of it
-  pub window_more : (a n : ℕ) (p : List (Term V)) (h : Held V) (o : Outcome V) → n < length p → h ≡ holding (window m a n) (drop n p) → put (added m (once m (Witness (a + n))) h.list) h ≡ o
-      → o ≡ record { answer = Ok tt; held = holding (window m a (n + 1)) (drop (n + 1) p) }
-  window_more a n p h o lt e f = sym f ∙ ap (λ (h : Held V). put (added m (once m (Witness (a + n))) h.list) h) e ∙ put_window a n p lt
+  -- the same, of a term t added to a list, where t is once reading k
+  module _ (a k : ℕ) (p : List (Term V)) (before after : LinearCombination V) (t : Term V) (is : t ≡ once m (Witness k)) where
+    added_reading : (r : Result (Unit {0}) Refusal) → Becomes (added m t (listed before)) before after r → a ≤ k → k - a < length p → held before ≡ record { list = window m a (k - a); spare = drop (k - a) p }
+        → ◌≡◌ {A = Outcome V} (record { answer = answered r; held = held after }) (record { answer = Ok tt; held = record { list = window m a (k - a + 1); spare = drop (k - a + 1) p } })
+    added_reading r b le lt h =
+        let same : a + (k - a) ≡ k = omega arith in
+        sym b.does
+        ∙ ap (λ (o : Held V). put (added m t o.list) o) h
+        ∙ ap (λ x. put (added m x (window m a (k - a))) (record { list = window m a (k - a); spare = drop (k - a) p })) (is ∙ ap (λ j. once m (Witness j)) (sym same))
+        ∙ put_window a (k - a) p lt
 
-  -- the places of a list that is held
-  pub all_held : (len : ℕ) (xs a b : List (Term V)) → holding (take len xs) (drop len xs) ≡ holding a b → xs ≡ a ++ b
-  all_held len xs a b e = sym (take-append-drop len xs) ∙ ap (λ (h : Held V). h.list ++ h.spare) e
+    pub window_more : Becomes (added m t (listed before)) before after (Ok tt) → a ≤ k → k - a < length p → held before ≡ record { list = window m a (k - a); spare = drop (k - a) p }
+        → held after ≡ record { list = window m a (k + 1 - a); spare = drop (k + 1 - a) p }
+    window_more b le lt h =
+        let next : k - a + 1 ≡ k + 1 - a = omega arith in
+        ap (λ (o : Outcome V). o.held) (added_reading (Ok tt) b le lt h) ∙ ap (λ n. record { list = window m a n; spare = drop n p }) next
 
-  -- all readings are gathered
-  pub gathered_is : (rs : List V) (a n : ℕ) (p out last : List (Term V)) (o : Option V) → o ≡ evaluated m (read m [] rs []) (window m a n) → last ≡ window m a n ++ drop n p → out ≡ last
-      → gathered m rs a n p ≡ record { answer = Ok o; places = out }
-  gathered_is rs a n p out last o e f h = λ i. record { answer = Ok (sym e i); places = (sym f ∙ sym h) i }
-
-  told_ok : (e : Told) → {X : Type 0} → ◌≡◌ {A = Result (Unit {0}) Told} (Err e) (Ok tt) → X
-  told_ok e q = let z : ◌≡◌ {A = ℕ} 0 1 = cc in absurd (omega arith)
-
-  -- a list that has room is not refused
-  pub not_refused : {X : Type 0} (e : Told) (h k : Held V) → ◌≡◌ {A = Outcome V} (record { answer = Err e; held = h }) (record { answer = Ok tt; held = k }) → X
-  not_refused e h k q = told_ok e (ap (λ (o : Outcome V). o.answer) q)
+    -- there is room for it
+    pub window_fits : (e : Refusal) → Becomes (added m t (listed before)) before after (Err e) → a ≤ k → k - a < length p → held before ≡ record { list = window m a (k - a); spare = drop (k - a) p } → ⊥
+    window_fits e b le lt h = cc (ap (λ (o : Outcome V). o.answer) (added_reading (Err e) b le lt h))
 
 module _ {V : Type 0} {m : Model V} (keeps : Keeps m) where
   open m.ring use {Member, zero as none, one, ◌⊕◌ as add, ◌⊗◌ as mul}

@@ -6,7 +6,7 @@ ghost use Rattle.variables.specs.Refusals.{answered};
 ghost use Rattle.smoothing.specs.Windows.{gathered, smoothed, total};
 
 use field::Field;
-use relations::{LinearCombination, Refusal, Term, Variable};
+use relations::{Assignment, LinearCombination, Refusal, Term, Variable};
 
 // The window of `width` readings from `first` on: its sum, as a list in `places` that names reading k as Witness(k), and what that is
 // worth. None where the readings have no such window, and 19 where the places are too few; both leave the places as they are.
@@ -19,7 +19,10 @@ pub fn smooth<F: Field>(
     ensures does { smoothed F.model readings.now first width places.old ≡ record { answer = answered result; places = places.new } }
     ensures sums { (v : F) → result ≡ Ok (Some v) → F.model.stands v ≡ total F.model (take width (drop first readings.now)) }
 {
-    if first > readings.len() || width > readings.len() - first {
+    let Some(rest) = readings.get(first..) else {
+        return Ok(None);
+    };
+    if width > rest.len() {
         return Ok(None);
     }
     if width > places.len() {
@@ -28,6 +31,7 @@ pub fn smooth<F: Field>(
     gather(readings, first, width, places)
 }
 
+#[tactic(auto, using(crate::proofs::Windows::window_more))]
 fn gather<F: Field>(
     readings: &[F],
     first: usize,
@@ -39,8 +43,11 @@ fn gather<F: Field>(
     ensures { gathered F.model readings.now first width places.old ≡ record { answer = answered result; places = places.new } }
 {
     let mut list = LinearCombination::new(places);
-    for i in 0..width {
-        list.add_variable(Variable::Witness(first + i))?;
+    for k in first..first + width {
+        list.add_term(Variable::Witness(k))?;
     }
-    Ok(list.worth(&readings[0..0], readings))
+    Ok(list.worth(&Assignment {
+        instances: &[],
+        witnesses: readings,
+    }))
 }

@@ -1,46 +1,48 @@
 -- Lists cleared, gained and inserted into, a place at a time. Assumes nothing.
-use Rattle.std.proofs.Common.{◌≡◌, ℕ, zero, suc, ◌+◌, ◌<◌, ◌≤◌, List, [], ◌∷◌, ◌++◌, length, get_or, take, drop, set, replicate, sym, ap, ◌∙◌, append_assoc, arith}
-use Rattle.std.specs.List.{insert}
-use Rattle.std.proofs.lemmas.List.{drop_more, drop_all, drop-set-lt, take_more_set, take_all, take_at, set_at, length-set, length-replicate, replicate_more}
+use Rattle.std.proofs.Common.{◌≡◌, ℕ, zero, suc, ◌+◌, ◌-◌, ◌<◌, List, [], ◌∷◌, ◌++◌, map, length, get_or, take, drop, set, replicate, sym, refl, ap, ◌∙◌, arith}
+use Rattle.std.specs.List.{insert, FoldsTo}
+use Rattle.std.proofs.Math.Seq.{take-append-add}
+use Rattle.std.proofs.lemmas.List.Edits.{map_over_more}
+use Rattle.std.proofs.lemmas.List.{drop_more, drop_all, take_all, set_at, append-nil, length-drop, length-take-le}
+use borrow.Rule.Slice.PartMut.{put_mid, mid_of, post_of}
 use Rattle.field.specs.Laws.{Model}
 use Rattle.variables.specs.declared.Term.{Term}
 use Rattle.variables.specs.Terms.{term}
 use Rattle.variables.specs.Locate.{gained}
 
--- one place more is cleared
-pub clear_more : {X : Type 0} (y : X) (xs : List X) (i : ℕ) → i < length xs → set (replicate i y ++ drop i xs) i y ≡ replicate (i + 1) y ++ drop (i + 1) xs
-clear_more y xs i lt =
-    ap (λ l. set (replicate i y ++ l) i y) (drop_more xs i y lt)
-    ∙ set_at (replicate i y) (get_or xs i y) (drop (i + 1) xs) y i (length-replicate i y)
-    ∙ sym (append_assoc (replicate i y) (y ∷ []) (drop (i + 1) xs))
-    ∙ ap (λ l. l ++ drop (i + 1) xs) (replicate_more i y)
+-- items that calls gave, where each call gives y
+pub filled : {P X : Type 0} (R : P → X → P → Type 0) (y : X) → ((p : P) (x : X) (q : P) → R p x q → x ≡ y) → (p q : P) (xs : List X) → FoldsTo R p xs q → xs ≡ replicate (length xs) y
+filled R y each p q [] h = refl
+filled R y each p q (x ∷ xs) h = λ j. each p x h.0 h.1 j ∷ filled R y each h.0 q xs h.2 j
 
-pub gained_set : {V : Type 0} (m : Model V) (k : V) (i : ℕ) (ts : List (Term V)) (t : Term V) → i < length ts → t ≡ get_or ts i t → set ts i (term (m.plus t.number k) t.variable) ≡ gained m k i ts
-gained_set m k zero [] t lt e = absurd (omega arith)
-gained_set m k (suc i) [] t lt e = absurd (omega arith)
-gained_set m k zero (u ∷ ts) t lt e = ap (λ (x : Term _). term (m.plus x.number k) x.variable ∷ ts) e
-gained_set m k (suc i) (u ∷ ts) t lt e = ap (λ l. u ∷ l) (gained_set m k i ts t (omega arith) e)
+-- one place more is mapped, where what is written is f of what stood there
+pub mapped_more : {X : Type 0} (f : X → X) (xs ys : List X) (i : ℕ) (x y : X) → i < length xs → ys ≡ map f (take i xs) ++ drop i xs → x ≡ get_or ys i x → y ≡ f (get_or ys i x) → set ys i y ≡ map f (take (i + 1) xs) ++ drop (i + 1) xs
+mapped_more f xs ys i x y lt e is wrote = ap (set ys i) (wrote ∙ ap f (sym is)) ∙ map_over_more f xs ys i x lt e is
 
--- a term carried from `at` up to i, the terms in between moved up by one
-pub record Carried {X : Type 0} (at : ℕ) (x : X) (start : List X) (i : ℕ) (carry : X) (now : List X) : Type 0 where
-  pub whole : take i now ++ carry ∷ drop i now ≡ insert start at x
-  pub long : length now ≡ length start
+-- what stands at i with k added to its number
+pub gained_set : {V : Type 0} (m : Model V) (k : V) (i : ℕ) (ts : List (Term V)) (d : Term V) → i < length ts → set ts i (term (m.plus (get_or ts i d).number k) (get_or ts i d).variable) ≡ gained m k i ts
+gained_set m k zero [] d lt = absurd (omega arith)
+gained_set m k (suc i) [] d lt = absurd (omega arith)
+gained_set m k zero (t ∷ ts) d lt = refl
+gained_set m k (suc i) (t ∷ ts) d lt = ap (λ l. t ∷ l) (gained_set m k i ts d (omega arith))
 
-pub carried_more : {X : Type 0} {at : ℕ} {x : X} {start : List X} {i : ℕ} {carry : X} {now : List X} → Carried at x start i carry now → i < length start → (here : X) → here ≡ get_or now i here
-    → Carried at x start (i + 1) here (set now i carry)
-carried_more {at = at} {x} {start} {i} {carry} {now} p lt here is =
-    let long = p.long in
-    record {
-      whole =
-          (λ j. take_more_set now i carry (omega arith) j ++ here ∷ drop-set-lt (i + 1) now i carry (omega arith) j)
-          ∙ append_assoc (take i now) (carry ∷ []) (here ∷ drop (i + 1) now)
-          ∙ ap (λ l. take i now ++ carry ∷ l) (ap (λ y. y ∷ drop (i + 1) now) is ∙ sym (drop_more now i here (omega arith)))
-          ∙ p.whole;
-      long = length-set now i carry ∙ p.long;
-    }
-
-pub carried_all : {X : Type 0} {at : ℕ} {x : X} {start : List X} {i : ℕ} {carry : X} {now : List X} → Carried at x start i carry now → length start ≤ i → now ≡ take (length start) (insert start at x)
-carried_all {at = at} {x} {start} {i} {carry} {now} p le =
-    let long = p.long in
-    sym (take_at now (carry ∷ []) (length start) long)
-    ∙ ap (take (length start)) ((λ j. sym (take_all i now (omega arith)) j ++ carry ∷ sym (drop_all i now (omega arith)) j) ∙ p.whole)
+-- the places from `at` on are rotated by one, so that the last comes to `at`, where x is written
+pub inserted : {X : Type 0} (xs ys : List X) (at : ℕ) (x : X) → at < length xs
+    → (let mid = mid_of at (length xs - at) xs in ys ≡ drop (length mid - 1) mid ++ take (length mid - 1) mid)
+    → set (put_mid at (length xs - at) xs ys) at x ≡ take (length xs) (insert xs at x)
+inserted xs ys at x lt e =
+    let n = length xs - at - 1 in
+    let front = take at xs in
+    let rest = drop at xs in
+    let mid = mid_of at (length xs - at) xs in
+    let whole : mid ≡ rest = take_all (length xs - at) rest (simp length-drop (omega arith)) in
+    let many : length mid - 1 ≡ n = ap (λ l. length l - 1) whole ∙ ap (λ k. k - 1) (length-drop at xs) in
+    let long : length front ≡ at = length-take-le at xs (omega arith) in
+    let all : length front + suc n ≡ length xs = omega arith in
+    let last = get_or rest n x in
+    let one : drop n rest ≡ last ∷ [] = drop_more rest n x (simp length-drop (omega arith)) ∙ ap (λ l. last ∷ l) (drop_all (n + 1) rest (simp length-drop (omega arith))) in
+    let none : post_of at (length xs - at) xs ≡ [] = drop_all (length xs - at) rest (simp length-drop (omega arith)) in
+    ap (λ l. set (front ++ (l ++ post_of at (length xs - at) xs)) at x) (e ∙ (λ j. drop (many j) (whole j) ++ take (many j) (whole j)) ∙ ap (λ l. l ++ take n rest) one)
+    ∙ set_at front last (take n rest ++ post_of at (length xs - at) xs) x at long
+    ∙ ap (λ l. front ++ x ∷ l) (ap (λ l. take n rest ++ l) none ∙ append-nil (take n rest))
+    ∙ sym (ap (λ k. take k (insert xs at x)) (sym all) ∙ take-append-add front (x ∷ rest) (suc n))

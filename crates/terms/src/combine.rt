@@ -2,7 +2,8 @@ ghost use Rattle.std.specs.Prelude.{◌≡◌};
 
 use field::Field;
 
-// How the numbers of two lists combine in a merge. It stands in for the two closures of the Rust's `op_impl`.
+// How the numbers of two lists combine in a merge. The Rust's `op_impl` takes two closures; an interface has their meaning as
+// functions, which the contract of a merge names.
 pub trait Combine<F> {
     // what a number of the second list becomes where the first has no such variable
     ghost pushing: { Self → F → F };
@@ -18,7 +19,7 @@ pub trait Combine<F> {
 }
 
 // The first list plus the second.
-pub struct Plus {}
+pub struct Plus;
 
 impl<F: Field> Combine<F> for Plus {
     ghost pushing = { λ _ b. b };
@@ -35,7 +36,7 @@ impl<F: Field> Combine<F> for Plus {
 }
 
 // The first list minus the second.
-pub struct Minus {}
+pub struct Minus;
 
 impl<F: Field> Combine<F> for Minus {
     ghost pushing = { λ _ b. F.Field.model.minus b };
@@ -72,7 +73,7 @@ impl<F: Field> Combine<F> for PlusScaled<F> {
 }
 
 // Numbers as they are: for a merge of which only the length counts.
-pub struct Same {}
+pub struct Same;
 
 impl<F: Field> Combine<F> for Same {
     ghost pushing = { λ _ b. b };

@@ -38,6 +38,16 @@ module _ {V : Type 0} (m : Model V) (t : Term V) where
       (cases_Bool (equal v w)))
       (cases_Bool (below w v))
 
+  -- where the variable stands at the place sought, the term there gains the number ..
+  pub placed_by_gain : (ts : List (Term V)) (i : ℕ) → i ≡ seek t.variable ts → true ≡ first_is t.variable (drop i ts) → gained m t.number i ts ≡ placed m t ts
+  unfolding at_place
+  placed_by_gain ts i s e = ap (λ b. at_place b i ts) e ∙ ap (λ k. at_place (first_is t.variable (drop k ts)) k ts) s ∙ placed_there ts
+
+  -- .. and else the term is inserted there
+  pub placed_by_insert : (ts : List (Term V)) (i : ℕ) → i ≡ seek t.variable ts → false ≡ first_is t.variable (drop i ts) → insert ts i t ≡ placed m t ts
+  unfolding at_place
+  placed_by_insert ts i s e = ap (λ b. at_place b i ts) e ∙ ap (λ k. at_place (first_is t.variable (drop k ts)) k ts) s ∙ placed_there ts
+
   located : (b : Bool) (i : ℕ) (ts : List (Term V)) → added_at m (cond b (Ok i) (Err i)) t ts ≡ at_place b i ts
   unfolding at_place
   located true i ts = refl

@@ -7,4 +7,6 @@ pub mod Compact
 pub mod Locate
 pub mod Merge
 pub mod Evaluate
+pub mod Assigned
 pub mod Laws
+pub mod Text

@@ -4,9 +4,14 @@
 ghost use Rattle.std.specs.Prelude.{◌≡◌};
 ghost use Rattle.variables.specs.Order.{below, Ordered};
 ghost use Rattle.variables.specs.Questions.{is_zero, is_one, is_instance, is_witness, is_lc, lc_index, column_of};
-ghost use Rattle.variables.specs.Terms.{term, once};
+ghost use Rattle.variables.specs.Terms.{term, once, nothing};
+ghost use Rattle.variables.specs.Refusals.{told};
 ghost use Rattle.variables.specs.Laws.{Compacts, Adds, ListsWorth, MergesRise, Seeks, Evaluates};
 
+mod assignment;
+mod text;
+
+pub use assignment::Assignment;
 use field::Field;
 
 // The number of a symbolic linear combination; never a row or a column.
@@ -34,11 +39,8 @@ pub struct Term<F> {
 impl<F: Field> From<(F, Variable)> for Term<F> {
     ghost from_gives = { λ p t. t ≡ term p.0 p.1 };
 
-    fn from(pair: (F, Variable)) -> Term<F> {
-        Term {
-            number: pair.0,
-            variable: pair.1,
-        }
+    fn from((number, variable): (F, Variable)) -> Term<F> {
+        Term { number, variable }
     }
 }
 
@@ -54,6 +56,18 @@ impl<F: Field> From<Variable> for Term<F> {
     }
 }
 
+// Zero times Zero: what a place holds that no list needs.
+impl<F: Field> Default for Term<F> {
+    ghost is_default = { λ t. t ≡ nothing F.model };
+
+    fn default() -> Term<F> {
+        Term {
+            number: F::zero(),
+            variable: Variable::Zero,
+        }
+    }
+}
+
 // Why a call is denied. specs/Refusals has the number of each.
 #[derive(Clone, Copy, PartialEq, Eq, Debug)]
 pub enum Refusal {
@@ -61,7 +75,18 @@ pub enum Refusal {
     TableTooShort,
 }
 
+impl Refusal {
+    pub fn number(self) -> u8
+        ensures { result ≡ (told self).number }
+    {
+        match self {
+            Refusal::TableTooShort => 19,
+        }
+    }
+}
+
 impl Variable {
+    // a question for each kind, by the names of the Rust
     pub fn is_zero(self) -> bool
         ensures { result ≡ is_zero self }
     {
@@ -114,7 +139,8 @@ impl Variable {
         }
     }
 
-    // Zero, One, then instances, witnesses and symbols, each by number.
+    // Zero, One, then instances, witnesses and symbols, each by number: the derived order, by a name whose promise is that
+    // it is this one.
     pub fn is_below(self, other: Variable) -> bool
         ensures { result ≡ below self other }
     {
@@ -124,44 +150,34 @@ impl Variable {
 
 // Theorems: each is asked for by the contract of a function, and holds of every field that keeps the laws.
 
-pub fn variables_are_ordered() -> u8
+#[tactic(auto, using(crate::proofs::Orders::ordered))]
+pub fn variables_are_ordered()
     ensures { Ordered }
-{
-    0
-}
+{}
 
-pub fn compactify_keeps<F: Field>() -> u8
+pub fn compactify_keeps<F: Field>()
     ensures { Compacts F.model }
-{
-    0
-}
+{}
 
-pub fn lists_are_worth<F: Field>() -> u8
+pub fn lists_are_worth<F: Field>()
     ensures { ListsWorth F.model }
-{
-    0
-}
+{}
 
-pub fn adding_places<F: Field>() -> u8
+#[tactic(auto, using(crate::proofs::Adds::adds))]
+pub fn adding_places<F: Field>()
     ensures { Adds F.model }
-{
-    0
-}
+{}
 
-pub fn merges_rise<F: Field>() -> u8
+#[tactic(auto, using(crate::proofs::Rises::merges_rise_lem))]
+pub fn merges_rise<F: Field>()
     ensures { MergesRise F }
-{
-    0
-}
+{}
 
-pub fn seeking_finds<F: Field>() -> u8
+#[tactic(auto, using(crate::proofs::Seeks::seeks))]
+pub fn seeking_finds<F: Field>()
     ensures { Seeks F }
-{
-    0
-}
+{}
 
-pub fn evaluation_stands<F: Field>() -> u8
+pub fn evaluation_stands<F: Field>()
     ensures { Evaluates F.model }
-{
-    0
-}
+{}

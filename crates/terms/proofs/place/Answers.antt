@@ -1,29 +1,35 @@
-use Rattle.std.proofs.Common.{sym, refl, ap, ◌∙◌, arith}
-use Rattle.terms.proofs.Places.{goes_on, swaps, gains, ends, moved}
+use Rattle.std.proofs.Common.{◌≡◌, ◌+◌, ◌≤◌, length, take, drop, arith}
+use Rattle.std.proofs.lemmas.List.{take_at, length-take-le}
+use Rattle.std.proofs.lemmas.List.Sums.{prefix_len-le-length}
+use Rattle.variables.specs.Order.{below}
+use Rattle.variables.specs.Locate.{seek}
+use Rattle.variables.proofs.Adds.{placed_by_gain, placed_by_insert}
+use Rattle.terms.proofs.Places.{inserted_among}
 use Rattle.terms.proofs.place.Goals as goal
-use Rattle.terms.proofs.place.Goals.{then-is_below, else-is_below}
 
-pub loop-i-init : goal.loop-i-init
-loop-i-init g c = record { rising = c.requires.rising; front = refl; rest = refl; long = refl }
+pub returns-then-stands_at-clause-front : goal.returns-then-stands_at-clause-front
+returns-then-stands_at-clause-front g c =
+    let ts = c.args.terms.now in
+    let n = c.args.len in
+    let long : length c.gain.new.terms ≡ n = omega (arith, length-take-le n ts (omega arith)) in
+    let all = take_at c.gain.new.terms (drop n ts) n long in
+    let is = placed_by_gain g.F.Field.model c.args.term (take n ts) c.seek-at.result c.seek-at.ensures c.if-stands_at.ensures in
+    cc
 
-pub loop-i-preserved : goal.loop-i-preserved
-loop-i-preserved g c =
-    let m = g.F.Field.model in
-    let i = c.loop-i-test.true in
-    let apart = sym c.is_equal.ensures ∙ c.if-is_equal.false in
-    elim c.if-is_below.branch [
-      | then-is_below w ↦ moved m w.carry-is w.terms-is (swaps m c.loop-i.invariant i c.requires.room c.index-terms-i.result c.index-terms-i.is apart (sym c.is_below.ensures ∙ w.if-is_below.true))
-      | else-is_below w ↦ moved m w.carry-is w.terms-is (goes_on m c.loop-i.invariant i c.requires.room c.index-terms-i.result c.index-terms-i.is apart (sym c.is_below.ensures ∙ w.if-is_below.false))
-    ]
+pub insert-requires : goal.insert-requires
+insert-requires g c =
+    let ts = c.args.terms.now in
+    let n = c.args.len in
+    let at : seek c.args.term.variable (take n ts) ≤ length (take n ts) = prefix_len-le-length (λ t. below t.variable c.args.term.variable) (take n ts) in
+    omega (arith, c.seek-at.ensures, length-take-le n ts (omega arith), length-take-le (n + 1) ts (omega arith))
 
-pub returns-then-is_equal : goal.returns-then-is_equal
-returns-then-is_equal g c =
-    let p = gains g.F.Field.model c.loop-i.invariant c.loop-i-test.true c.requires.room c.index-terms-i.result c.index-terms-i.is
-    (record { number = c.sum.result; variable = c.index-terms-i.result.variable }) (ap (λ n. record { number = n; variable = c.index-terms-i.result.variable }) c.sum.ensures)
-    (sym c.is_equal.ensures ∙ c.if-is_equal.true) in
-    record { len = omega arith; front = p.0; rest = p.1 }
-
-pub returns : goal.returns
-returns g c =
-    let p = ends g.F.Field.model c.loop-i.invariant c.requires.room (omega arith) in
-    record { len = omega arith; front = p.0; rest = p.1 }
+pub returns-clause-front : goal.returns-clause-front
+returns-clause-front g c =
+    let ts = c.args.terms.now in
+    let n = c.args.len in
+    let at : seek c.args.term.variable (take n ts) ≤ length (take n ts) = prefix_len-le-length (λ t. below t.variable c.args.term.variable) (take n ts) in
+    let long : length c.insert.new.terms ≡ n + 1 = omega (arith, length-take-le (n + 1) ts (omega arith)) in
+    let all = take_at c.insert.new.terms (drop (n + 1) ts) (n + 1) long in
+    let among = inserted_among ts n c.seek-at.result c.args.term c.requires (omega (arith, c.seek-at.ensures, length-take-le n ts (omega arith))) in
+    let is = placed_by_insert g.F.Field.model c.args.term (take n ts) c.seek-at.result c.seek-at.ensures c.if-stands_at.ensures in
+    cc

@@ -1,19 +1,13 @@
-use Rattle.std.proofs.Common.{sym, ◌∙◌, arith}
-use Rattle.std.proofs.lemmas.List.Sums.{prefix_len-drop_yes, prefix_len-drop_no, prefix_len-drop_all}
+use Rattle.std.proofs.Common.{◌≡◌, true, false, refl, one-add, add-one, rules, tests}
+use Rattle.std.proofs.lemmas.Iterator.{YieldsList-from_slice, IsFirst-from_position, index_from_first}
 use Rattle.variables.specs.Order.{below}
+use Rattle.variables.specs.Locate.{seek}
 use Rattle.terms.proofs.seek.Goals as goal
-
-pub returns-then-not-is_below : goal.returns-then-not-is_below
-returns-then-not-is_below g c =
-    let none = prefix_len-drop_no (λ t. below t.variable c.args.variable) c.args.terms.now c.loop-i.i c.index-terms-i.result c.loop-i-test.true (sym c.is_below.ensures ∙ c.if-not-is_below.true) in
-    omega (arith, c.loop-i.invariant)
-
-pub loop-i-preserved : goal.loop-i-preserved
-loop-i-preserved g c =
-    let one = prefix_len-drop_yes (λ t. below t.variable c.args.variable) c.args.terms.now c.loop-i.i c.index-terms-i.result c.loop-i-test.true (sym c.is_below.ensures ∙ c.if-not-is_below.false) in
-    omega (arith, c.loop-i.invariant)
 
 pub returns : goal.returns
 returns g c =
-    let none = prefix_len-drop_all (λ t. below t.variable c.args.variable) c.args.terms.now c.loop-i.i c.loop-i-test.false in
-    omega (arith, c.loop-i.invariant)
+    let v = c.args.variable in
+    let ts = c.args.terms.now in
+    let first = IsFirst-from_position _ _ c.position.result (λ t. below t.variable v ≡ false) (λ t. below t.variable v ≡ true) c.position.ensures.ran (YieldsList-from_slice ts cc) (λ x q k. search (rules, tests)) (λ x q k. search (rules, tests)) in
+    let place = index_from_first (seek v) (λ t. below t.variable v ≡ false) (λ t. below t.variable v ≡ true) refl (λ t us (e : below t.variable v ≡ false). rw e) (λ t us (e : below t.variable v ≡ true). rw (e, one-add, add-one)) ts c.position.result first in
+    cc
