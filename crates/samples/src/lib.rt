@@ -283,7 +283,7 @@ mod tests {
     }
 
     #[test]
-    fn lists_as_text(rt: HostRuntime) -> Result<(), Fail> {
+    fn texts(rt: HostRuntime) -> Result<(), Fail> {
         let mut places = [
             term(2147483646, Variable::Zero),
             term(0, one()),
@@ -297,6 +297,14 @@ mod tests {
             text.as_str(),
             "2147483646*z 0*o 1*i0 7*w12 9*s18446744073709551615"
         );
+        let bytes = Term::from((byte(0xfe), Variable::SymbolicLc(LcIndex(0)))).to_string(
+            rt.alloc(),
+        )?;
+        assert_eq!(rt; bytes.as_str(), "254*s0");
+        let number = NotAMember(256).to_string(rt.alloc())?;
+        assert_eq!(rt; number.as_str(), "256 is no number of the field");
+        let refusal = Refusal::TableTooShort.to_string(rt.alloc())?;
+        assert_eq!(rt; refusal.as_str(), "a lent table is too short");
         let mut none: [Term<Gf8>; 0] = [];
         let empty = LinearCombination::whole(&mut none).to_string(rt.alloc())?;
         assert_eq!(rt; empty.as_str(), "");
