@@ -2,6 +2,7 @@
 use Rattle.std.proofs.Common.{◌≡◌, ℕ, ◌+◌, ◌<◌, ◌≤◌, Bool, true, false, not, eqb, ◌↔◌, List, [], ◌∷◌, length, Some, None, Ok, Err, Option, Result, sym, refl, ap, ◌∙◌, subst, arith}
 use Rattle.std.specs.List.{AllByRecursion}
 use Rattle.std.proofs.lemmas.Bool.{and_parts, and_from, eqb-true, eq-eqb, ltb-false, le-ltb, not-true, not_from_false}
+use Rattle.std.specs.Result.{result_err, result_ok}
 use Rattle.field.specs.Laws.{Model}
 use Rattle.variables.specs.declared.LcIndex.{LcIndex}
 use Rattle.variables.specs.declared.Variable.{Variable}
@@ -16,8 +17,8 @@ use Rattle.account.specs.Given.{marks, lists, KnownVariable}
 use Rattle.account.specs.Finish.{Stage, places, lacks}
 use Rattle.account.specs.Rows.{Matrices}
 use Rattle.account.specs.Account.{Finished, Account, KeepsMatrices, KeepsValues, fresh, HasValue, Checkable, KnownAt, added_count, rule_of, matrices_of}
-use Rattle.account.specs.Calls.{Call, set_mode, set_optimization_goal, new_input_variable, new_witness_variable, new_lc, enforce_constraint, which_is_unsatisfied, assigned_value, finalize, to_matrices, if_ok}
-use Rattle.account.specs.Refusals.{Lengths, capacity, when, first, unless_bare, if_known, variable_refusal, value_refusal, list_refusal, used_entries, values_fit, fits, unsound, check_refusal, work_refusal, question_refusal, writing_refusal, room_of, start_of, refusal_in, stages_of, tests, refusal}
+use Rattle.account.specs.Calls.{Call, set_mode, set_optimization_goal, new_input_variable, new_witness_variable, new_lc, enforce_constraint, which_is_unsatisfied, assigned_value, finalize, to_matrices}
+use Rattle.account.specs.Refusals.{Lengths, capacity, when, first, unless_bare, if_known, variable_refusal, value_refusal, list_refusal, used_entries, values_fit, fits, unsound, check_refusal, work_refusal, question_refusal, writing_refusal, room_of, start_of, stages_of, tests, refusal}
 use Rattle.account.specs.Laws.{FindsPlaces}
 use Rattle.account.specs.Conditions.{Fresh, Fits, Conditions, AcceptedWhen, OpenedWhen}
 use Rattle.account.proofs.Refuses.{some_none, when_not, enough, first_none, some_is, variables_refused, lists_refused, not_symbol}
@@ -58,7 +59,7 @@ module _ {V : Type 0} where
   fresh_iff : (x : Account V) → (fresh x ≡ true) ↔ Fresh x
   fresh_iff x = (fresh_means x, fresh_from x)
 
-  value_iff : (mode : SynthesisMode) (handed : Result V SynthesisError) → (value_refusal mode handed ≡ None) ↔ HasValue mode (if_ok handed)
+  value_iff : (mode : SynthesisMode) (handed : Result V SynthesisError) → (value_refusal mode handed ≡ None) ↔ HasValue mode (result_ok handed)
   value_iff Setup handed = (λ _. tt, λ _. refl)
   value_iff (Prove matrices) (Ok v) = (λ _. tt, λ _. refl)
   value_iff (Prove matrices) (Err e) = (λ h. absurd (some_none _ _ refl h), λ h. absurd h)
@@ -70,7 +71,7 @@ module _ {V : Type 0} where
       let iff = true_iff (eqb x.constraints 0) 18 in
       (λ e. eqb-true _ _ (iff.0 e), λ e. iff.1 (eq-eqb _ _ e))
 
-  work_iff : (o : Option (Finished V)) (work : ℕ) (x : Account V) → (work_refusal o work x ≡ None) ↔ (o ≡ None → used_entries x ≤ capacity work)
+  work_iff : (o : Option (Finished V)) (work : ℕ) (x : Account V) → (work_refusal o work x ≡ None) ↔ (o ≡ None → used_entries x ≤ work)
   work_iff None work x = (λ e _. enough _ _ 19 e, λ h. no_lack _ _ 19 (h refl))
   work_iff (Some done) work x = (λ _ e. absurd (some_none done _ refl e), λ _. refl)
 
@@ -119,7 +120,7 @@ module _ {V : Type 0} where
     KnownHere v = KnownVariable x.instances.count x.witnesses.count (marks x.given) v
 
     abbrev Asks : Variable → Type 0
-    Asks v = (j : LcIndex) → v ≡ SymbolicLc j → KnownHere v → x.finished ≡ None → used_entries x ≤ capacity work
+    Asks v = (j : LcIndex) → v ≡ SymbolicLc j → KnownHere v → x.finished ≡ None → used_entries x ≤ work
 
     not_asked : (v : Variable) → kind v < 4 → Asks v
     not_asked v lt j e = absurd (not_symbol v j lt e)
@@ -145,26 +146,26 @@ module _ {V : Type 0} where
     )
 
   writing_iff : (cells ends : ℕ) (o : Option (Matrices V))
-      → (writing_refusal cells ends o ≡ None) ↔ ((answer : Matrices V) → o ≡ Some answer → (length answer.cells ≤ capacity cells) × (length answer.ends ≤ capacity ends))
+      → (writing_refusal cells ends o ≡ None) ↔ ((answer : Matrices V) → o ≡ Some answer → (length answer.cells ≤ cells) × (length answer.ends ≤ ends))
   writing_iff cells ends None = (λ _ answer e. absurd (some_none answer _ e refl), λ _. refl)
   writing_iff cells ends (Some found) =
-      let both : List (Option Told) = when (lacks (length found.cells) (capacity cells)) 19 ∷ when (lacks (length found.ends) (capacity ends)) 19 ∷ [] in (
+      let both : List (Option Told) = when (lacks (length found.cells) cells) 19 ∷ when (lacks (length found.ends) ends) 19 ∷ [] in (
         λ e answer same.
             let all = first_none both e in
-            subst (λ (a : Matrices V). (length a.cells ≤ capacity cells) × (length a.ends ≤ capacity ends)) (some_is found answer same) (enough _ _ 19 all.0, enough _ _ 19 all.1.0),
+            subst (λ (a : Matrices V). (length a.cells ≤ cells) × (length a.ends ≤ ends)) (some_is found answer same) (enough _ _ 19 all.0, enough _ _ 19 all.1.0),
         λ h. let fit = h found refl in none_first both (no_lack _ _ 19 fit.0, (no_lack _ _ 19 fit.1, tt)),
       )
 
-  stages_iff : (r : Result (Stage V) Told) → (refusal_in r ≡ None) ↔ ((end : Stage V) × (r ≡ Ok end))
+  stages_iff : (r : Result (Stage V) Told) → (result_err r ≡ None) ↔ ((end : Stage V) × (r ≡ Ok end))
   stages_iff (Ok end) = (λ _. (end, refl), λ _. refl)
   stages_iff (Err t) = (λ e. absurd (some_none t _ refl e), λ h. absurd (let z : ◌≡◌ {A = ℕ} 0 1 = let f = h.1 in cc in omega arith))
 
   -- finalising, where the counts fit
   finalize_iff : (m : Model V) (k : Lengths) (x : Account V) → Fits k x
-      → (refusal_in (stages_of m k x) ≡ None) ↔ FindsPlaces m (rule_of x.goal (lists x.given)) (room_of k x) (start_of x) (places (lists x.given)) (lists x.given)
+      → (result_err (stages_of m k x) ≡ None) ↔ FindsPlaces m (rule_of m x.goal (lists x.given)) (room_of k x) (start_of x) (places (lists x.given)) (lists x.given)
   finalize_iff m k x f =
       let terms = f.terms in
-      let there = places_suffice m (rule_of x.goal (lists x.given)) (room_of k x) (start_of x) (places (lists x.given)) (lists x.given) (omega arith) in
+      let there = places_suffice m (rule_of m x.goal (lists x.given)) (room_of k x) (start_of x) (places (lists x.given)) (lists x.given) (omega arith) in
       let stages = stages_iff (stages_of m k x) in
       (λ e. there.0 (stages.0 e), λ h. stages.1 (there.1 h))
 

@@ -39,7 +39,7 @@ module _ {V : Type 0} where
     Dues x [] = Unit {0}
     Dues x (e ∷ es) = (builds x (effect_of e.call) ≡ true) × (e.answer ≡ due m k x e.call) × Dues (after m x e) es
 
-    calls_run : (calls : List (Call V)) (x : Account V) → Run m x (log_from m k x calls)
+    pub calls_run : (calls : List (Call V)) (x : Account V) → Run m x (log_from m k x calls)
     calls_run [] x = tt
     calls_run (call ∷ calls) x =
         cond_both (builds x (effect_of call)) _ _ (Run m x)

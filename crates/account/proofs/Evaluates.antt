@@ -5,6 +5,7 @@ use lib.ListN.{length-map}
 use Rattle.std.specs.List.{AllByRecursion}
 use Rattle.std.proofs.lemmas.List.{get_or_at, length_push, map_push}
 use Rattle.std.proofs.ByRecursion.{All-weaker}
+use Rattle.std.specs.Option.{option_to_list}
 use Rattle.field.specs.Laws.{Model, Keeps}
 use Rattle.variables.specs.declared.Variable.{Variable}
 use Rattle.variables.specs.declared.Variable.TheVariants.{Zero, One, Instance, Witness, SymbolicLc}
@@ -17,7 +18,7 @@ use Rattle.account.specs.declared.Mark.{Mark}
 use Rattle.account.specs.Given.{Given, lists, KnownVariable, KnownAfter}
 use Rattle.account.specs.Worths.{worths_after}
 use Rattle.account.specs.Finish.{Outlined, finish}
-use Rattle.account.specs.Evaluate.{if_any, filled_after, added_after, added_values}
+use Rattle.account.specs.Evaluate.{filled_after, added_after, added_values}
 use Rattle.account.specs.Laws.{WorkStands, AddedStand}
 use Rattle.account.proofs.Counts.{Only, Numbered, finish_numbered, finish_early, lists_counted}
 use Rattle.account.proofs.Finishes.{worth_original}
@@ -104,7 +105,7 @@ module _ {V : Type 0} {m : Model V} (keeps : Keeps m) where
         let next = follows os (added ++ v ∷ []) (subst (λ k. Numbered k os) (sym count) numbered.1) early.1 in
         let us = next.rest in
         let step : added_after m instances witnesses added (o ∷ os) ≡ added_after m instances witnesses (added ++ v ∷ []) os
-        = ap (λ x. added_after m instances witnesses (added ++ if_any x) os) got.1 in
+        = ap (λ x. added_after m instances witnesses (added ++ option_to_list x) os) got.1 in
         let end = added_after m instances witnesses (added ++ v ∷ []) os in
         let split : end ≡ added ++ v ∷ us = next.splits ∙ append_assoc added (v ∷ []) us in
         let whole : original ++ map m.stands end ≡ p ++ m.stands v ∷ map m.stands us

@@ -1,9 +1,9 @@
 -- What is promised of finalising. Assumes nothing.
-use Rattle.std.proofs.Common.{◌≡◌, ℕ, ◌+◌, ◌*◌, ◌<◌, ◌↔◌, List, [], ◌∷◌, ◌++◌, map, length, get_or, sym, refl, ap, ◌∙◌, subst, ap₂, inl, inr, arith, length-append}
+use Rattle.std.proofs.Common.{◌≡◌, ℕ, ◌+◌, ◌<◌, ◌↔◌, List, [], ◌∷◌, ◌++◌, map, length, get_or, sym, refl, ap, ◌∙◌, subst, ap₂, inl, inr, arith, length-append}
 use mathlib.Core.List.{map-append, map-map}
 use lib.ListN.{length-map, get_or-map}
 use Rattle.std.specs.List.{AllByRecursion}
-use Rattle.std.proofs.lemmas.List.{ext_get_or}
+use Rattle.std.proofs.lemmas.List.{ext_get_or, take_at}
 use Rattle.std.proofs.ByRecursion.{All-append, All-weaker, All-map}
 use Rattle.field.specs.Laws.{Model, Keeps}
 use Rattle.variables.specs.declared.Variable.TheVariants.{One, Witness}
@@ -18,15 +18,11 @@ use Rattle.account.specs.Rows.{Row, each, row_at, rows, constraints, starts_from
 use Rattle.account.specs.Laws.{SymbolFreeRow, WellFormed, OneAnswer, MatricesExact, combination_worths, Exact, added_worth, FailsAlike, Finalised}
 use Rattle.account.proofs.Lists.{all_split, all_unmap, all_at, all_of, map_same}
 use Rattle.account.proofs.Worths.{single_worth, worths_solve}
-use Rattle.account.proofs.Indexes.{index_rows}
+use Rattle.account.proofs.Indexes.{three_each, index_rows}
 use Rattle.account.proofs.Counts.{Only, Counted, lists_counted, list_from_each, each_from_list, AllSymbolFree, finish_numbered, finish_symbol_free, finish_long, finish_taken}
 use Rattle.account.proofs.Finishes.{worths_original, row_holds, Meets, Stands, Agrees, finish_agrees}
 use Rattle.account.proofs.Matrices.{marlin_holds, marlin_first}
 use Rattle.account.proofs.Checks.{one_answer, first_append, rows_each}
-
-three_each : {X : Type 0} (rs : List (Row X)) → length (row_lists rs) ≡ 3 * length rs
-three_each [] = refl
-three_each (r ∷ rs) = omega (arith, three_each rs)
 
 marks_each : {X Y : Type 0} (f : X → Y) (xs : List X) → row_marks (map f xs) ≡ row_marks xs
 marks_each f [] = refl
@@ -219,6 +215,9 @@ module _ {V : Type 0} {m : Model V} (keeps : Keeps m) where
         let split = valued_rows kept added long agreed in
         let hold = added_rows_hold kept added long agreed in
         record {
+          lists_worth =
+              ap (map (worth m (value m n (kept ++ added) []))) (take_at done.finished (row_lists added_rows) (length given) (omega (arith, as_marked, length-map given (λ g. g.mark))))
+              ∙ agreed.same ∙ same_worths kept added long;
           rows_worth = split ∙ ap (λ l. as_written ++ l) (row_worth kept added long agreed);
           same = λ answer. subst (λ rs. FirstFailing (Holds m) rs answer ↔ FirstFailing (Holds m) as_written answer) (sym split) (first_append (Holds m) as_written _ answer hold);
         }

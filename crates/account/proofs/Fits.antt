@@ -3,7 +3,7 @@ use Rattle.std.proofs.Common.{◌≡◌, ℕ, ◌+◌, ◌-◌, ◌*◌, ◌≤�
 use mathlib.Core.List.{map-append}
 use lib.ListN.{length-map}
 use Rattle.std.proofs.lemmas.Bool.{cond_both}
-use Rattle.field.specs.Laws.{Model}
+use Rattle.field.specs.Laws.{Model, Keeps}
 use Rattle.variables.specs.declared.Term.{Term}
 use Rattle.variables.specs.Refusals.{Told}
 use Rattle.account.specs.declared.SynthesisMode.{SynthesisMode}
@@ -15,16 +15,18 @@ use Rattle.account.specs.Account.{Finished, Account, KeepsMatrices, KeepsValues,
 use Rattle.account.specs.Calls.{Call, set_mode, set_optimization_goal, new_input_variable, new_witness_variable, new_lc, enforce_constraint, which_is_unsatisfied, assigned_value, finalize, to_matrices, Event, effect_of, answer_of, after, after_all, account}
 use Rattle.account.specs.Refusals.{Lengths, capacity, value_places, finished_places, used_terms, used_entries, fits, room_of, start_of, stages_of, refusal}
 use Rattle.account.specs.Laws.{FindsPlaces}
-use Rattle.account.specs.Conditions.{Conditions}
-use Rattle.account.specs.Run.{by_refusal, due, log_from, log_of}
+use Rattle.account.specs.Conditions.{Conditions, Fits}
+use Rattle.account.specs.Run.{by_refusal, due, log_from, log_of, Run}
 use Rattle.account.specs.Promise.{TablesFit}
 use Rattle.account.proofs.Refuses.{enough}
 use Rattle.account.proofs.Accepts.{fits_iff, conditions}
 use Rattle.account.proofs.Places.{places_append, places_taken}
 use Rattle.account.proofs.Suffices.{places_suffice}
 use Rattle.account.proofs.Values.{open_means}
-use Rattle.account.proofs.Numbers.{refusal_other}
-use Rattle.account.proofs.Calls.{log_due}
+use Rattle.account.proofs.Causes.{refused_for_cause}
+use Rattle.account.proofs.CausesRefuse.{told_other}
+use Rattle.account.proofs.Runs.{run_past, any_refusals}
+use Rattle.account.proofs.Calls.{calls_run, log_due}
 
 -- places for values, where they are kept
 for_values : (mode : SynthesisMode) (count len : ℕ) → count ≤ value_places mode len → KeepsValues mode → count ≤ capacity len
@@ -83,7 +85,7 @@ module _ {V : Type 0} where
       ended : (end : Stage V) → stages_of m k x ≡ Ok end → (done : Finished V) → done.lists ≡ finished_lists m (finish_of m x) → done.combinations ≡ map (λ o. o.entry) (finish_of m x).outlined
           → MadeFits x.mode x done
       ended end e done ls es =
-          let within = places_taken m (rule_of x.goal (lists x.given)) (room_of k x) (start_of x) (places (lists x.given)) (lists x.given) end e in
+          let within = places_taken m (rule_of m x.goal (lists x.given)) (room_of k x) (start_of x) (places (lists x.given)) (lists x.given) end e in
           let s = finish_of m x in
           let many : length done.combinations ≡ length end.lists.outlined
           = ap length es ∙ length-map s.outlined (λ o. o.entry) ∙ ap (λ (f : Finishing V). length f.outlined) (sym within.same) in
@@ -102,11 +104,11 @@ module _ {V : Type 0} where
           at_least (Prove matrices) count len h v = h
 
       -- the stage that finalising ends in
-      end_found : FindsPlaces m (rule_of x.goal (lists x.given)) (room_of k x) (start_of x) (places (lists x.given)) (lists x.given) → (end : Stage V) × (stages_of m k x ≡ Ok end)
-      end_found h = (places_suffice m (rule_of x.goal (lists x.given)) (room_of k x) (start_of x) (places (lists x.given)) (lists x.given) terms).1 h
+      end_found : FindsPlaces m (rule_of m x.goal (lists x.given)) (room_of k x) (start_of x) (places (lists x.given)) (lists x.given) → (end : Stage V) × (stages_of m k x ≡ Ok end)
+      end_found h = (places_suffice m (rule_of m x.goal (lists x.given)) (room_of k x) (start_of x) (places (lists x.given)) (lists x.given) terms).1 h
 
       made_fits : (mode : SynthesisMode)
-          → (KeepsMatrices mode → FindsPlaces m (rule_of x.goal (lists x.given)) (room_of k x) (start_of x) (places (lists x.given)) (lists x.given))
+          → (KeepsMatrices mode → FindsPlaces m (rule_of m x.goal (lists x.given)) (room_of k x) (start_of x) (places (lists x.given)) (lists x.given))
           → MadeFits x.mode x (made_in m mode x)
       made_fits Setup h = let found = end_found (h tt) in ended found.0 found.1 (made_in m Setup x) refl refl
       made_fits (Prove true) h = let found = end_found (h tt) in ended found.0 found.1 (made_in m (Prove true) x) refl refl
@@ -188,20 +190,22 @@ module _ {V : Type 0} where
     fit_at (e ∷ past) future x h = fit_at past future (after m x e) h.1
 
     -- a call that is answered by its due is not refused by 17
-    due_other : (x : Account V) (call : Call V) → fits k x ≡ true → (o : Option Told) → refusal m k x call ≡ o → (r : Told) → by_refusal m o (answer_of m x call) ≡ Err r → r.number ≡ 17 → ⊥
+    due_other : (x : Account V) (call : Call V) → Fits k x → (o : Option Told) → refusal m k x call ≡ o → (r : Told) → by_refusal m o (answer_of m x call) ≡ Err r → r.number ≡ 17 → ⊥
     due_other x call f None e r d = absurd (let z : ◌≡◌ {A = ℕ} 0 1 = cc in omega arith)
-    due_other x call f (Some told) e r d = let same : told ≡ r = cc in refusal_other m k x call f r (e ∙ ap Some same)
+    due_other x call f (Some told) e r d = let same : told ≡ r = cc in told_other m k x call r (refused_for_cause m k x call r (e ∙ ap Some same)) f
 
-  pub tables_fit : (m : Model V) → TablesFit m
-  tables_fit m k open-ok calls =
+  pub tables_fit : {m : Model V} → Keeps m → TablesFit m
+  tables_fit {m} keeps k open-ok calls =
       let first : 1 ≤ capacity k.instances = enough 1 (capacity k.instances) 11 open-ok in
       let at_start : Fit k (opened m) = record { terms_fit = omega arith; index_fit = omega arith; first_fits = first; instances_fit = λ _. first; witnesses_fit = λ _. omega arith } in
       let all = calls_fit m k calls (opened m) at_start in
       let at : (past future : List (Event V)) → log_of m k calls ≡ past ++ future → fits k (account m past) ≡ true
       = λ past future e. fit_from k _ (fit_at m k past future (opened m) (subst (AllFit m k (opened m)) e all)) in
       record {
-        fitting = at;
+        fitting = λ past future e.
+            let run = run_past keeps past future (opened m) (subst (Run m (opened m)) e (calls_run m k calls (opened m))) in
+            ((fits_iff k (account m past)).0 (at past future e), (any_refusals keeps past run).sound);
         never_17 = λ past future e here r is.
             let x = account m past in
-            due_other m k x e.call (at past (e ∷ future) here) (refusal m k x e.call) refl r (sym (log_due m k calls past future e here).1 ∙ is);
+            due_other m k x e.call ((fits_iff k x).0 (at past (e ∷ future) here)) (refusal m k x e.call) refl r (sym (log_due m k calls past future e here).1 ∙ is);
       }

@@ -1,5 +1,5 @@
 -- The rows of an index, read place by place, are its triples in turn. Assumes nothing.
-use Rattle.std.proofs.Common.{◌≡◌, ℕ, suc, List, [], ◌∷◌, ◌++◌, map, length, sym, refl, ap, ◌∙◌, ap₂, append_assoc, append-nil, arith, length-append}
+use Rattle.std.proofs.Common.{◌≡◌, ℕ, suc, ◌+◌, ◌*◌, ◌<◌, List, [], ◌∷◌, ◌++◌, map, length, get_or, sym, refl, ap, ◌∙◌, ap₂, append_assoc, append-nil, arith, length-append}
 use Rattle.std.proofs.lemmas.List.{get_or-append-add, get_or_at}
 use Rattle.account.specs.declared.Mark.{Mark}
 use Rattle.account.specs.Given.{Triples, none, plain, triple}
@@ -9,6 +9,10 @@ pub triples_append : {ms ns : List Mark} → Triples ms → Triples ns → Tripl
 triples_append none t = t
 triples_append (plain s) t = plain (triples_append s t)
 triples_append (triple s) t = triple (triples_append s t)
+
+pub three_each : {X : Type 0} (rs : List (Row X)) → length (row_lists rs) ≡ 3 * length rs
+three_each [] = refl
+three_each (r ∷ rs) = omega (arith, three_each rs)
 
 module _ {X : Type 0} (d : X) where
   -- from the places of an index that come after p
@@ -25,6 +29,17 @@ module _ {X : Type 0} (d : X) where
       let second = get_or-append-add p (a ∷ b ∷ c ∷ xs) 1 d in
       let third = get_or-append-add p (a ∷ b ∷ c ∷ xs) 2 d in
       λ i. record { a = first i; b = second i; c = third i }
+
+  -- the row j of some rows whose lists come after p
+  pub row_there : (rs : List (Row X)) (p : List X) (j : ℕ) (e : Row X) → j < length rs → row_at d (p ++ row_lists rs) (length p + 3 * j) ≡ get_or rs j e
+  row_there [] p j e lt = absurd (omega arith)
+  row_there (r ∷ rs) p ℕ.zero e lt =
+      let here : length p + 3 * 0 ≡ length p = omega arith in
+      ap (row_at d (p ++ row_lists (r ∷ rs))) here ∙ three p r.a r.b r.c (row_lists rs)
+  row_there (r ∷ rs) p (suc j) e lt =
+      let q = r.a ∷ r.b ∷ r.c ∷ [] in
+      let further : length p + 3 * suc j ≡ length (p ++ q) + 3 * j = omega (arith, length-append p q) in
+      ap₂ (row_at d) (sym (append_assoc p q (row_lists rs))) further ∙ row_there rs (p ++ q) j e (omega arith)
 
   turn_append : {ms : List Mark} → Triples ms → (ns : List Mark) (p xs ys : List X) → length ms ≡ length xs
       → turn (ms ++ ns) p (xs ++ ys) ≡ turn ms p xs ++ turn ns (p ++ xs) ys

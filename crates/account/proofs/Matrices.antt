@@ -6,9 +6,10 @@ use Rattle.field.specs.Laws.{Model, Keeps}
 use Rattle.variables.specs.declared.Variable.{Variable}
 use Rattle.variables.specs.declared.Variable.TheVariants.{Zero, One, Instance, Witness, SymbolicLc}
 use Rattle.variables.specs.declared.Term.{Term}
+use Rattle.variables.specs.Questions.{column}
 use Rattle.variables.specs.Worth.{value, worth}
 use Rattle.variables.specs.Evaluate.{SymbolFree}
-use Rattle.account.specs.Rows.{Row, each, FailsFirst, FirstFailing, Holds, Cell, nonzero, cell, cells, entry_at, product_from, Marlin}
+use Rattle.account.specs.Rows.{Row, each, FailsFirst, FirstFailing, Holds, Cell, cell_at, cells, entry_at, product_from, Marlin}
 use Rattle.field.proofs.Rings.{zero_plus, times_zero, zero_times, plus_times, plus_four}
 use Rattle.account.proofs.Counts.{Only}
 
@@ -64,13 +65,13 @@ module _ {V : Type 0} {m : Model V} (keeps : Keeps m) where
         go [] e = absurd (keeps.laws.one_not_zero (sym e))
         go (x ∷ z) e = omega arith
 
-    nonzero_worth : (k : V) (j : ℕ) → j < length z → product_from m 0 (nonzero m k j) z ≡ mul (m.stands k) (get_or z j zero)
+    nonzero_worth : (k : V) (j : ℕ) → j < length z → product_from m 0 (cell_at m k (Some j)) z ≡ mul (m.stands k) (get_or z j zero)
     nonzero_worth k j h =
         cond_both (m.same k m.zero) _ _ (λ cs. product_from m 0 cs z ≡ mul (m.stands k) (get_or z j zero))
         (λ e. product_none z 0 ∙ sym (zero_times keeps.laws _) ∙ ap (λ x. mul x (get_or z j zero)) (sym (keeps.same_means k m.zero e ∙ keeps.zero_stands)))
         (λ e. product_one (record { number = k; column = j }) z 0 j (omega arith) h)
 
-    cell_worth : (k : V) (v : Variable) → SymbolFree n w v → product_from m 0 (cell m n k v) z ≡ mul (m.stands k) (value m n z [] v)
+    cell_worth : (k : V) (v : Variable) → SymbolFree n w v → product_from m 0 (cell_at m k (column n v)) z ≡ mul (m.stands k) (value m n z [] v)
     cell_worth k Zero s = product_none z 0 ∙ sym (times_zero keeps.laws _)
     cell_worth k One s = nonzero_worth k 0 some ∙ ap (mul (m.stands k)) first
     cell_worth k (Instance i) s = nonzero_worth k i (omega arith)
@@ -80,7 +81,7 @@ module _ {V : Type 0} {m : Model V} (keeps : Keeps m) where
     pub cells_worth : (ts : List (Term V)) → Only (SymbolFree n w) ts → product_from m 0 (cells m n ts) z ≡ worth m (value m n z []) ts
     cells_worth [] s = product_none z 0
     cells_worth (t ∷ ts) s =
-        product_append (cell m n t.number t.variable) (cells m n ts) z ∙ ap₂ add (cell_worth t.number t.variable s.0) (cells_worth ts s.1)
+        product_append (cell_at m t.number (column n t.variable)) (cells m n ts) z ∙ ap₂ add (cell_worth t.number t.variable s.0) (cells_worth ts s.1)
 
     abbrev FreeRow : Row (List (Term V)) → Type 0
     FreeRow r = Only (SymbolFree n w) r.a × Only (SymbolFree n w) r.b × Only (SymbolFree n w) r.c

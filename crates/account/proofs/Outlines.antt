@@ -1,5 +1,5 @@
 -- What is outlined has a use, and so is a list that a call named. Assumes nothing.
-use Rattle.std.proofs.Common.{◌≡◌, ℕ, suc, ◌+◌, ◌*◌, ◌<◌, true, false, eqb, ◌⊎◌, List, [], ◌∷◌, ◌++◌, length, get_or, Some, sym, refl, ap, ◌∙◌, subst, inl, inr, ⊎_elim, append_assoc, arith, length-append}
+use Rattle.std.proofs.Common.{◌≡◌, ℕ, suc, ◌+◌, ◌*◌, ◌<◌, true, false, eqb, ◌⊎◌, List, [], ◌∷◌, ◌++◌, length, get_or, Some, sym, ap, ◌∙◌, subst, inl, inr, ⊎_elim, append_assoc, arith, length-append, refl}
 use Rattle.std.specs.List.{AllByRecursion, slice_get}
 use Rattle.std.proofs.lemmas.List.{get_or_append_left}
 use Rattle.std.proofs.lemmas.Option.{slice_get-get_or}
@@ -80,10 +80,10 @@ module _ {V : Type 0} (m : Model V) (rule : Rule V) (w : ℕ) where
   finish_picked ls = picked_after ls _ tt
 
 pub outlined_plain : {V : Type 0} (m : Model V) (n w : ℕ) (given : List (Given V)) → Known n w given → (goal : OptimizationGoal)
-    → AllByRecursion (λ o. slice_get (marks given) o.entry ≡ Some Plain) (finish m (rule_of goal (lists given)) w (lists given)).outlined
-outlined_plain m n w given known goal = All-weaker _ _ (λ o is. by goal o is) _ (finish_picked m (rule_of goal (lists given)) w (lists given))
+    → AllByRecursion (λ o. slice_get (marks given) o.entry ≡ Some Plain) (finish m (rule_of m goal (lists given)) w (lists given)).outlined
+outlined_plain m n w given known goal = All-weaker _ _ (λ o is. by goal o is) _ (finish_picked m (rule_of m goal (lists given)) w (lists given))
   where
-    by : (goal : OptimizationGoal) (o : Outlined _) → rule_of goal (lists given) o.entry o.merged ≡ true → slice_get (marks given) o.entry ≡ Some Plain
+    by : (goal : OptimizationGoal) (o : Outlined _) → rule_of m goal (lists given) o.entry o.merged ≡ true → slice_get (marks given) o.entry ≡ Some Plain
     by NoGoal o is = absurd (true≢false (sym is))
     by Constraints o is = absurd (true≢false (sym is))
     by Weight o is = used_plain n w o.entry given known (weighs_used (uses (lists given) o.entry) (length o.merged) is)
@@ -93,7 +93,7 @@ none_picked : {V : Type 0} (os : List (Outlined V)) → AllByRecursion (λ o. fa
 none_picked [] h = refl
 none_picked (o ∷ os) h = absurd (true≢false (sym h.0))
 
-pub none_outlined : {V : Type 0} (m : Model V) (w : ℕ) (ls : List (List (Term V))) (goal : OptimizationGoal) → (goal ≡ Weight → ⊥) → (finish m (rule_of goal ls) w ls).outlined ≡ []
+pub none_outlined : {V : Type 0} (m : Model V) (w : ℕ) (ls : List (List (Term V))) (goal : OptimizationGoal) → (goal ≡ Weight → ⊥) → (finish m (rule_of m goal ls) w ls).outlined ≡ []
 none_outlined m w ls NoGoal h = none_picked _ (finish_picked m outline_none w ls)
 none_outlined m w ls Constraints h = none_picked _ (finish_picked m outline_none w ls)
 none_outlined m w ls Weight h = absurd (h refl)

@@ -12,7 +12,7 @@ use Rattle.account.specs.Finish.{Rule, Outlined, Finishing, Room, Start, Stage, 
 use Rattle.account.specs.Rows.{row_lists, added_row}
 use Rattle.account.specs.Laws.{PlacesTaken, PlacesRefused}
 
-err_ok : {X : Type 0} (e : Told) (x : X) → Err e ≡ Ok x → ⊥
+pub err_ok : {X : Type 0} (e : Told) (x : X) → Err e ≡ Ok x → ⊥
 err_ok e x p = let z : ◌≡◌ {A = ℕ} 0 1 = cc in omega arith
 
 unless_ok : {X : Type 0} (b : Bool) (k : ℕ) (r : Result X Told) (x : X) → unless b k r ≡ Ok x → (b ≡ false) × (r ≡ Ok x)
@@ -22,7 +22,7 @@ unless_ok false k r x e = (refl, e)
 pub ok_is : {X : Type 0} (x y : X) → ◌≡◌ {A = Result X Told} (Ok x) (Ok y) → x ≡ y
 ok_is x y e = cc
 
-err_is : {X : Type 0} (x y : Told) → ◌≡◌ {A = Result X Told} (Err x) (Err y) → x ≡ y
+pub err_is : {X : Type 0} (x y : Told) → ◌≡◌ {A = Result X Told} (Err x) (Err y) → x ≡ y
 err_is x y e = cc
 
 -- a step that finds its places

@@ -1,12 +1,12 @@
 -- What is written is read back. Assumes nothing.
-use Rattle.std.proofs.Common.{◌≡◌, ℕ, ◌+◌, ◌-◌, ◌<◌, List, [], ◌∷◌, ◌++◌, map, length, get_or, take, drop, sym, refl, ap, ◌∙◌, ap₂, append_assoc, arith, length-append}
+use Rattle.std.proofs.Common.{◌≡◌, ℕ, suc, ◌+◌, ◌-◌, ◌<◌, ◌≤◌, List, [], ◌∷◌, ◌++◌, map, length, get_or, take, drop, sym, refl, ap, ◌∙◌, ap₂, append_assoc, zero-add, arith, length-append}
 use mathlib.Core.List.{map-map}
 use lib.ListN.{length-map, get_or-map}
 use Rattle.std.proofs.lemmas.List.{drop_at, take-append-le, take_all, get_or_append_left, get_or-append-add}
 use Rattle.std.proofs.lemmas.List.FromFn.{fill_by_all}
 use Rattle.field.specs.Laws.{Model}
 use Rattle.variables.specs.declared.Term.{Term}
-use Rattle.account.specs.Rows.{Row, each, Cell, cells, ends_from, concatenated, parts_from, rows_in, matrices}
+use Rattle.account.specs.Rows.{Row, each, Cell, cells, ends_from, concatenated, last_of, parts_from, rows_in, matrices}
 use Rattle.account.specs.Laws.{ReadBack}
 
 -- lists that lie one after the other, past those of p, lie between the ends
@@ -62,7 +62,33 @@ rows_back {V} m n w rs =
     let c = ap (λ ps. get_or ps (length rs + length rs + j) []) back ∙ at.2 ∙ column_at m n rs (λ x. x.c) refl j in
     get_or-map (each (cells m n)) rs j (none m n rs) ∙ (λ i. record { a = sym a i; b = sym b i; c = sym c i })))
 
+-- the cells and the ends of lists that lie one after the other
+cells_long : {X : Type 0} (ls ks : List (List X)) → length (concatenated (ls ++ ks)) ≡ length (concatenated ls) + length (concatenated ks)
+cells_long [] ks = omega arith
+cells_long (l ∷ ls) ks = omega (arith, length-append l (concatenated (ls ++ ks)), length-append l (concatenated ls), cells_long ls ks)
+
+ends_long : {X : Type 0} (ls : List (List X)) (k : ℕ) → length (ends_from k ls) ≡ length ls
+ends_long [] k = refl
+ends_long (l ∷ ls) k = ap suc (ends_long ls (k + length l))
+
+end_above : {X : Type 0} (ls : List (List X)) (k j : ℕ) → j < length (ends_from k ls) → k ≤ get_or (ends_from k ls) j 0
+end_above [] k j h = absurd (omega arith)
+end_above (l ∷ ls) k ℕ.zero h = omega arith
+end_above (l ∷ ls) k (suc j) h = omega (arith, end_above ls (k + length l) j (omega arith))
+
+in_order : {X : Type 0} (ls : List (List X)) (k i j : ℕ) → i ≤ j → j < length (ends_from k ls) → get_or (ends_from k ls) i 0 ≤ get_or (ends_from k ls) j 0
+in_order [] k i j le h = absurd (omega arith)
+in_order (l ∷ ls) k ℕ.zero ℕ.zero le h = omega arith
+in_order (l ∷ ls) k ℕ.zero (suc j) le h = end_above ls (k + length l) j (omega arith)
+in_order (l ∷ ls) k (suc i) ℕ.zero le h = absurd (omega arith)
+in_order (l ∷ ls) k (suc i) (suc j) le h = in_order ls (k + length l) i j (omega arith) (omega arith)
+
+last_is : {X : Type 0} (ls : List (List X)) (k : ℕ) → last_of k (ends_from k ls) ≡ k + length (concatenated ls)
+last_is [] k = omega arith
+last_is (l ∷ ls) k = omega (arith, last_is ls (k + length l), length-append l (concatenated ls))
+
 pub read_back : {V : Type 0} (m : Model V) → ReadBack m
+unfolding column
 read_back {V} m n w rs =
     let back = rows_back m n w rs in
     let of : (f : Row (List (Cell V)) → List (Cell V)) → map f (rows_in (matrices m n w rs)) ≡ map (λ r. f (each (cells m n) r)) rs
@@ -70,4 +96,15 @@ read_back {V} m n w rs =
     let a = sym (of (λ r. r.a)) in
     let b = sym (of (λ r. r.b)) in
     let c = sym (of (λ r. r.c)) in
-    record { rows = back; counts = λ i. (length (concatenated (a i)), length (concatenated (b i)), length (concatenated (c i))) }
+    let left = column m n rs (λ x. x.a) in
+    let middle = column m n rs (λ x. x.b) in
+    let right = column m n rs (λ x. x.c) in
+    record {
+      rows = back;
+      counts = λ i. (length (concatenated (a i)), length (concatenated (b i)), length (concatenated (c i)));
+      cells_counted = cells_long left (middle ++ right) ∙ ap (λ k. length (concatenated left) + k) (cells_long middle right) ∙ omega arith;
+      ends_counted = ends_long (left ++ (middle ++ right)) 0
+          ∙ omega (arith, length-append left (middle ++ right), length-append middle right, column_long m n rs (λ x. x.a), column_long m n rs (λ x. x.b), column_long m n rs (λ x. x.c));
+      ends_in_order = in_order (left ++ (middle ++ right)) 0;
+      last_end = last_is (left ++ (middle ++ right)) 0 ∙ zero-add _;
+    }

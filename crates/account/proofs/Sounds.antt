@@ -1,5 +1,5 @@
 -- What every account of a run keeps, call by call. Assumes nothing.
-use Rattle.std.proofs.Common.{◌≡◌, ℕ, suc, ◌+◌, ◌≤◌, true, false, eqb, List, [], ◌∷◌, ◌++◌, map, length, Some, None, Ok, Err, Option, Result, sym, refl, ap, ◌∙◌, subst, ap₂, append_assoc, append-nil, arith, length-append}
+use Rattle.std.proofs.Common.{◌≡◌, ℕ, suc, ◌+◌, ◌≤◌, true, false, eqb, List, [], ◌∷◌, ◌++◌, map, length, Some, None, Option, sym, refl, ap, ◌∙◌, subst, ap₂, append_assoc, append-nil, arith, length-append}
 use mathlib.Core.List.{map-append}
 use lib.ListN.{length-map}
 use Rattle.std.proofs.lemmas.List.{get_or_append_left, nil_from_length}
@@ -9,7 +9,6 @@ use Rattle.field.specs.Laws.{Model}
 use Rattle.variables.specs.declared.Variable.{Variable}
 use Rattle.variables.specs.declared.Variable.TheVariants.{Zero, One, Instance, Witness, SymbolicLc}
 use Rattle.variables.specs.declared.Term.{Term}
-use Rattle.variables.specs.Refusals.{Told}
 use Rattle.account.specs.declared.Mark.{Mark}
 use Rattle.account.specs.declared.Mark.TheVariants.{A, B, C}
 use Rattle.account.specs.declared.SynthesisMode.{SynthesisMode}
@@ -17,7 +16,7 @@ use Rattle.account.specs.declared.SynthesisMode.TheVariants.{Setup, Prove}
 use Rattle.account.specs.Given.{Given, marks, lists, marked, KnownVariable, KnownTerms, KnownAfter, Triples, none, plain, triple, Known}
 use Rattle.account.specs.Rows.{Row, row_at, starts_from, constraints}
 use Rattle.account.specs.Account.{Account, Effect, asks, checks, writes, sets_mode, sets_goal, names_instance, names_witness, names_lists, constrains, finalises, KeepsMatrices, KeepsValues, kept_value, plain_lists, constraint_lists, fresh, HasValue, Allows, opened, changed}
-use Rattle.account.specs.Calls.{Answer, Event, effect_of, constraint_in, named_in, named_of, accepted_named, after_answer, after, after_all}
+use Rattle.account.specs.Calls.{constraint_in}
 use Rattle.account.specs.Conditions.{Fresh}
 use Rattle.account.proofs.Indexes.{triples_append, rows_append, index_rows}
 
@@ -44,13 +43,13 @@ module _ {V : Type 0} where
   after_append n w before (g ∷ gs) more h k =
       (h.0, after_append n w (before ++ g.mark ∷ []) gs more h.1 (subst (λ ms. KnownAfter n w ms more) (sym (append_assoc before (g.mark ∷ []) (marks gs))) k))
 
-  known_append : (n w : ℕ) (given more : List (Given V)) → Known n w given → KnownAfter n w (marks given) more → Triples (marks more) → Known n w (given ++ more)
+  pub known_append : (n w : ℕ) (given more : List (Given V)) → Known n w given → KnownAfter n w (marks given) more → Triples (marks more) → Known n w (given ++ more)
   known_append n w given more h k t = record {
     terms = after_append n w [] given more h.terms k;
     triples = subst Triples (sym (map-append (λ (g : Given V). g.mark) given more)) (triples_append h.triples t);
   }
 
-  known_wider : (n w n' w' : ℕ) → n ≤ n' → w ≤ w' → (given : List (Given V)) → Known n w given → Known n' w' given
+  pub known_wider : (n w n' w' : ℕ) → n ≤ n' → w ≤ w' → (given : List (Given V)) → Known n w given → Known n' w' given
   known_wider n w n' w' a b given h = record { terms = after_more n w n' w' a b [] given h.terms; triples = h.triples }
 
   -- the lists of a constraint, each known where the first of them will stand
@@ -111,7 +110,7 @@ module _ {V : Type 0} where
   bare_written (Prove false) given a b c k = ap (λ g. constraints g) (append-nil given)
 
   -- what every account of a run keeps, these constraints having been accepted
-  pub record Sound (m : Model V) (accepted : List (Row (List (Term V)))) (x : Account V) : Type 0 where
+  pub record Keeping (m : Model V) (accepted : List (Row (List (Term V)))) (x : Account V) : Type 0 where
     pub known : Known x.instances.count x.witnesses.count x.given
     pub as_written : KeepsMatrices x.mode → constraints x.given ≡ accepted
     pub bare : (KeepsMatrices x.mode → ⊥) → constraints x.given ≡ []
@@ -147,13 +146,13 @@ module _ {V : Type 0} where
 
   module _ (m : Model V) where
     -- one value is the first
-    first_alone : {cs : List (Row (List (Term V)))} (x : Account V) → Sound m cs x → x.instances.count ≡ 1 → x.instances.kept ≡ m.one ∷ []
+    first_alone : {cs : List (Row (List (Term V)))} (x : Account V) → Keeping m cs x → x.instances.count ≡ 1 → x.instances.kept ≡ m.one ∷ []
     first_alone x s one =
         let rest = s.begins.0 in
         let long : length (m.one ∷ rest) ≡ 1 = sym (ap length s.begins.1) ∙ s.first_instance one in
         s.begins.1 ∙ ap (λ l. m.one ∷ l) (nil_from_length rest (omega arith))
 
-    pub opened_sound : Sound m [] (opened m)
+    pub opened_sound : Keeping m [] (opened m)
     opened_sound = record {
       known = record { terms = tt; triples = none };
       as_written = λ _. refl;
@@ -169,10 +168,10 @@ module _ {V : Type 0} where
     }
 
     -- no constraint more
-    same_constraints : (cs : List (Row (List (Term V)))) (x : Account V) → Sound m cs x → Sound m (cs ++ []) x
-    same_constraints cs x s = subst (λ l. Sound m l x) (sym (append-nil cs)) s
+    same_constraints : (cs : List (Row (List (Term V)))) (x : Account V) → Keeping m cs x → Keeping m (cs ++ []) x
+    same_constraints cs x s = subst (λ l. Keeping m l x) (sym (append-nil cs)) s
 
-    pub sound_changed : (cs : List (Row (List (Term V)))) (x : Account V) (e : Effect V) → Allows x e → Sound m cs x → Sound m (cs ++ constraint_in e) (changed m x e)
+    pub sound_changed : (cs : List (Row (List (Term V)))) (x : Account V) (e : Effect V) → Allows x e → Keeping m cs x → Keeping m (cs ++ constraint_in e) (changed m x e)
     sound_changed cs x asks ok s = same_constraints cs x s
     sound_changed cs x checks ok s = same_constraints cs x s
     sound_changed cs x writes ok s = same_constraints cs x s
@@ -271,29 +270,3 @@ module _ {V : Type 0} where
       first_instance = s.first_instance;
       no_witness = s.no_witness;
     })
-
-    -- every accepted naming is counted
-    changed_counts : (x : Account V) (e : Effect V) → ((changed m x e).instances.count ≡ x.instances.count + (named_in e).0) × ((changed m x e).witnesses.count ≡ x.witnesses.count + (named_in e).1)
-    changed_counts x asks = (omega arith, omega arith)
-    changed_counts x checks = (omega arith, omega arith)
-    changed_counts x writes = (omega arith, omega arith)
-    changed_counts x (sets_mode mode) = (omega arith, omega arith)
-    changed_counts x (sets_goal goal) = (omega arith, omega arith)
-    changed_counts x (names_instance v) = (omega arith, omega arith)
-    changed_counts x (names_witness v) = (omega arith, omega arith)
-    changed_counts x (names_lists ls) = (omega arith, omega arith)
-    changed_counts x (constrains p q r) = (omega arith, omega arith)
-    changed_counts x finalises = (omega arith, omega arith)
-
-    event_counts : (x : Account V) (answer : Result (Answer V) Told) (e : Effect V)
-        → ((after_answer m answer x e).instances.count ≡ x.instances.count + (named_of answer e).0) × ((after_answer m answer x e).witnesses.count ≡ x.witnesses.count + (named_of answer e).1)
-    event_counts x (Ok a) e = changed_counts x e
-    event_counts x (Err r) e = (omega arith, omega arith)
-
-    pub log_counts : (log : List (Event V)) (x : Account V)
-        → ((after_all m x log).instances.count ≡ x.instances.count + (accepted_named log).0) × ((after_all m x log).witnesses.count ≡ x.witnesses.count + (accepted_named log).1)
-    log_counts [] x = (omega arith, omega arith)
-    log_counts (e ∷ es) x =
-        let here = event_counts x e.answer (effect_of e.call) in
-        let later = log_counts es (after m x e) in
-        (omega (arith, here.0, later.0), omega (arith, here.1, later.1))

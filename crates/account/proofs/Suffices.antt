@@ -9,7 +9,7 @@ use Rattle.account.specs.Finish.{Rule, Finishing, Room, Start, Stage, untaken, l
 use Rattle.account.specs.Laws.{PlacesSuffice}
 use Rattle.account.proofs.Places.{ok_is, enough, and_then_ok, inlined_long, places_taken, places_found}
 
-unless_enough : {X : Type 0} (due places k : ℕ) (r : Result X Told) → due ≤ places → unless (lacks due places) k r ≡ r
+pub unless_enough : {X : Type 0} (due places k : ℕ) (r : Result X Told) → due ≤ places → unless (lacks due places) k r ≡ r
 unless_enough due places k r h = cond-false (lacks due places) (refused k) r (le-ltb places due h)
 
 module _ {V : Type 0} where

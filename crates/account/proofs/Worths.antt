@@ -17,6 +17,15 @@ use Rattle.account.specs.Worths.{worths, worths_after, followed}
 use Rattle.account.specs.Finish.{replaced, expanded, single}
 use Rattle.account.specs.Laws.{Solves, Meant, WorthsMeant}
 
+module _ {V : Type 0} where
+  -- what a list names is known after the lists before it
+  pub known_list : (n w : ℕ) (before : List Mark) (given : List (Given V)) → KnownAfter n w before given → (i : ℕ) → i < length given
+      → KnownTerms n w (before ++ take i (marks given)) (get_or (lists given) i [])
+  known_list n w before [] h i lt = absurd (omega arith)
+  known_list n w before (g ∷ gs) h ℕ.zero lt = subst (λ ms. KnownTerms n w ms g.terms) (sym (append-nil before)) h.0
+  known_list n w before (g ∷ gs) h (suc i) lt =
+      subst (λ ms. KnownTerms n w ms (get_or (lists gs) i [])) (append_assoc before (g.mark ∷ []) (take i (marks gs))) (known_list n w (before ++ g.mark ∷ []) gs h.1 i (omega arith))
+
 module _ {V : Type 0} {m : Model V} (keeps : Keeps m) where
   open m.ring use {Member, zero, one, ◌⊕◌ as add, ◌⊗◌ as mul}
 
@@ -97,14 +106,6 @@ module _ {V : Type 0} {m : Model V} (keeps : Keeps m) where
     long = worths_long n z [] (lists given) ∙ nat_zero_add _;
     symbols = λ k h. ap (λ j. get_or (worths m n z (lists given)) j zero) (sym (nat_zero_add k)) ∙ solved_after n w z given [] [] refl known k (omega (arith, length-map given (λ (g : Given V). g.terms)));
   }
-
-  -- what a list names is known after the lists before it
-  known_list : (n w : ℕ) (before : List Mark) (given : List (Given V)) → KnownAfter n w before given → (i : ℕ) → i < length given
-      → KnownTerms n w (before ++ take i (marks given)) (get_or (lists given) i [])
-  known_list n w before [] h i lt = absurd (omega arith)
-  known_list n w before (g ∷ gs) h ℕ.zero lt = subst (λ ms. KnownTerms n w ms g.terms) (sym (append-nil before)) h.0
-  known_list n w before (g ∷ gs) h (suc i) lt =
-      subst (λ ms. KnownTerms n w ms (get_or (lists gs) i [])) (append_assoc before (g.mark ∷ []) (take i (marks gs))) (known_list n w (before ++ g.mark ∷ []) gs h.1 i (omega arith))
 
   module _ (n w : ℕ) (z : List Member) (given : List (Given V)) (known : KnownAfter n w [] given) where
     abbrev all : List (List (Term V))

@@ -1,6 +1,7 @@
 -- The account of a circuit: what it is, told by the calls that it accepted. Assumes nothing.
-use Rattle.std.specs.Prelude.{◌≡◌, ℕ, ◌+◌, Bool, true, false, not, ◌&&◌, List, [], ◌∷◌, ◌++◌, map, length, Some, None, Option, ◌==◌, slice_index_or}
-use Rattle.std.specs.List.{slice_get}
+use Rattle.std.specs.Prelude.{◌≡◌, ℕ, ◌+◌, Bool, true, false, not, ◌&&◌, List, [], ◌∷◌, ◌++◌, map, length, drop, Some, None, Option, ◌==◌, slice_index_or}
+use Rattle.std.specs.List.{slice_get, zip}
+use Rattle.std.specs.Option.{option_map}
 use Rattle.field.specs.Laws.{Model}
 use Rattle.variables.specs.declared.Variable.{Variable}
 use Rattle.variables.specs.declared.Variable.TheVariants.{Zero, One, Instance, Witness, SymbolicLc}
@@ -11,19 +12,19 @@ use Rattle.account.specs.declared.Mark.TheVariants.{Plain, A, B, C}
 use Rattle.account.specs.declared.SynthesisMode.{SynthesisMode}
 use Rattle.account.specs.declared.SynthesisMode.TheVariants.{Setup, Prove}
 use Rattle.account.specs.declared.OptimizationGoal.{OptimizationGoal}
-use Rattle.account.specs.declared.OptimizationGoal.TheVariants.{None as NoGoal, Constraints, Weight}
+use Rattle.account.specs.declared.OptimizationGoal.TheVariants.{Constraints, Weight}
 use Rattle.account.specs.Given.{Given, marks, lists, marked, KnownTerms, KnownAfter}
 use Rattle.account.specs.Finish.{Rule, Finishing, outline_none, outline_by_weight, finish}
-use Rattle.account.specs.Rows.{Row, each, rows, finished_rows, finished_lists, constraints_at, Matrices, matrices}
+use Rattle.account.specs.Rows.{Row, each, rows, row_marks, finished_rows, finished_lists, constraints_at, Matrices, matrices}
 use Rattle.account.specs.Evaluate.{filled, added_values, or_zero, failing}
 
--- instances or witnesses: how many were named, and the values that are kept, from the first on
+-- instances, the constant one among them, or witnesses: how many there are, and the values that are kept, from the first on
 pub record Named (V : Type 0) : Type 0 where
   pub count : ℕ
   pub kept : List V
 
--- what finalising made: the finished list of each entry and after them the three of each added row, the combination that each added
--- witness stands for, by the number of its list, and the values kept of these witnesses
+-- what finalising made, where matrices are kept: the finished list of each entry and after them the three of each added row, the
+-- combination that each added witness stands for, by the number of its list, and the values kept of these witnesses
 pub record Finished (V : Type 0) : Type 0 where
   pub lists : List (List (Term V))
   pub combinations : List ℕ
@@ -73,11 +74,17 @@ pub data Effect (V : Type 0) : Type 0 where
   constrains : (a b c : List (Term V)) → Effect V
   finalises : Effect V
 
+-- effects that do nothing to the account
+abbrev pub LeavesAlone : {V : Type 0} → Effect V → Type 0
+LeavesAlone asks = Unit {0}
+LeavesAlone checks = Unit {0}
+LeavesAlone writes = Unit {0}
+LeavesAlone other = ⊥
+
 -- matrices are kept except in bare mode, and all values except in Setup
 abbrev pub KeepsMatrices : SynthesisMode → Type 0
-KeepsMatrices Setup = Unit {0}
-KeepsMatrices (Prove true) = Unit {0}
 KeepsMatrices (Prove false) = ⊥
+KeepsMatrices other = Unit {0}
 
 abbrev pub KeepsValues : SynthesisMode → Type 0
 KeepsValues Setup = ⊥
@@ -96,14 +103,8 @@ plain_lists ls = map (marked Plain) ls
 
 -- a constraint's three lists, which bare mode does not keep
 abbrev pub constraint_lists : {V : Type 0} → SynthesisMode → (a b c : List (Term V)) → List (Given V)
-constraint_lists Setup a b c = marked A a ∷ marked B b ∷ marked C c ∷ []
-constraint_lists (Prove true) a b c = marked A a ∷ marked B b ∷ marked C c ∷ []
 constraint_lists (Prove false) a b c = []
-
-abbrev pub rule_of : {V : Type 0} → OptimizationGoal → List (List (Term V)) → Rule V
-rule_of NoGoal given = outline_none
-rule_of Constraints given = outline_none
-rule_of Weight given = outline_by_weight given
+constraint_lists other a b c = marked A a ∷ marked B b ∷ marked C c ∷ []
 
 -- no variable, combination or constraint yet
 abbrev pub fresh : {V : Type 0} → Account V → Bool
@@ -119,13 +120,7 @@ abbrev pub builds : {V : Type 0} → Account V → Effect V → Bool
 builds x asks = true
 builds x checks = true
 builds x writes = not (is_open x.finished)
-builds x (sets_mode mode) = is_open x.finished
-builds x (sets_goal goal) = is_open x.finished
-builds x (names_instance v) = is_open x.finished
-builds x (names_witness v) = is_open x.finished
-builds x (names_lists ls) = is_open x.finished
-builds x (constrains a b c) = is_open x.finished
-builds x finalises = is_open x.finished
+builds x other = is_open x.finished
 
 -- outside Setup a new variable has a value
 abbrev pub HasValue : {V : Type 0} → SynthesisMode → Option V → Type 0
@@ -142,7 +137,7 @@ Checkable (Prove false) x = x.constraints ≡ 0
 abbrev pub KnownAt : {V : Type 0} → Account V → List (Term V) → Type 0
 KnownAt x ts = KnownTerms x.instances.count x.witnesses.count (marks x.given) ts
 
--- what has to hold of a circuit and of what is handed in, beside places, for a call of this effect to be accepted
+-- what has to hold of a circuit and of what is handed in, beside places and limits of counts, for a call of this effect to be accepted
 abbrev pub Allows : {V : Type 0} → Account V → Effect V → Type 0
 Allows x asks = Unit {0}
 Allows x checks = Checkable x.mode x
@@ -155,6 +150,10 @@ Allows x (names_lists ls) = KnownAfter x.instances.count x.witnesses.count (mark
 Allows x (constrains a b c) = KnownAt x a × KnownAt x b × KnownAt x c
 Allows x finalises = Unit {0}
 
+-- where matrices are not kept finalising makes nothing
+abbrev pub nothing_made : {V : Type 0} → Finished V
+nothing_made = record { lists = []; combinations = []; added = [] }
+
 -- the values kept of added witnesses, and how many there are
 abbrev pub added_kept : {V : Type 0} → Option (Finished V) → List V
 added_kept None = []
@@ -164,12 +163,36 @@ abbrev pub added_count : {V : Type 0} → Option (Finished V) → ℕ
 added_count None = 0
 added_count (Some done) = length done.combinations
 
+-- the finished list of every entry
+abbrev pub lists_of : {V : Type 0} → Option (Finished V) → Option (List (List (Term V)))
+lists_of finished = option_map (λ done. done.lists) finished
+
+-- the witnesses and the constraints, the added ones among them
+abbrev pub witness_count : {V : Type 0} → Account V → ℕ
+witness_count x = x.witnesses.count + added_count x.finished
+
+abbrev pub constraint_count : {V : Type 0} → Account V → ℕ
+constraint_count x = x.constraints + added_count x.finished
+
+-- the given lists of all entries: those that were handed in, and then the three of each added row, which stand as given and as finished
+abbrev pub added_given : {V : Type 0} → (entries : ℕ) → Option (Finished V) → List (Given V)
+added_given entries None = []
+added_given entries (Some done) = map (λ e. marked e.0 e.1) (zip (row_marks done.combinations) (drop entries done.lists))
+
+abbrev pub all_given : {V : Type 0} → Account V → List (Given V)
+all_given x = x.given ++ added_given (length x.given) x.finished
+
 -- the rows of a finished circuit
 abbrev pub rows_of : {V : Type 0} → Account V → Finished V → List (Row (List (Term V)))
 rows_of x done = finished_rows x.given done.lists done.combinations
 
 module _ {V : Type 0} (m : Model V) where
   open m.ring use {Member}
+
+  -- which lists a goal outlines, of those given
+  abbrev pub rule_of : OptimizationGoal → List (List (Term V)) → Rule V
+  rule_of Weight given = outline_by_weight given
+  rule_of other given = outline_none
 
   -- a circuit just opened: mode Prove with matrices, goal Constraints, and the instance one
   abbrev pub opened : Account V
@@ -183,7 +206,7 @@ module _ {V : Type 0} (m : Model V) where
     finished = None;
   }
 
-  -- the kept values as a vector, and with those of the added witnesses
+  -- what the kept values stand for, and with them those of the added witnesses: outside Setup these are vectors
   abbrev pub kept_of : Account V → List Member
   kept_of x = map m.stands (x.instances.kept ++ x.witnesses.kept)
 
@@ -206,7 +229,7 @@ module _ {V : Type 0} (m : Model V) where
   abbrev pub made_in : SynthesisMode → Account V → Finished V
   made_in Setup x = made [] x
   made_in (Prove true) x = made (added_values m x.instances.kept x.witnesses.kept (finish_of x).outlined) x
-  made_in (Prove false) x = record { lists = []; combinations = []; added = [] }
+  made_in (Prove false) x = nothing_made
 
   -- the account after an accepted call of this effect
   abbrev pub changed : Account V → Effect V → Account V
@@ -226,7 +249,7 @@ module _ {V : Type 0} (m : Model V) where
   values_of x None = rows m.zero (marks x.given) (map (or_zero m) (filled m x.instances.kept x.witnesses.kept (lists x.given)))
   values_of x (Some done) = map (each (λ ts. or_zero m (evaluated m (read m x.instances.kept (x.witnesses.kept ++ done.added) []) ts))) (rows_of x done)
 
-  -- what a check answers; no check is accepted in Setup, and in bare mode only one without a constraint
+  -- what a check answers; no check is accepted in Setup, and in bare mode only that of a circuit without a constraint
   abbrev pub failing_of : SynthesisMode → Account V → Option ℕ
   failing_of Setup x = None
   failing_of (Prove true) x = failing m (values_of x x.finished)
@@ -234,18 +257,16 @@ module _ {V : Type 0} (m : Model V) where
 
   -- a plain list's place in the work table; none for a constraint's own list and for a list that is not there
   abbrev pub if_plain : Option Mark → Option V → Option V
-  if_plain None worth = None
   if_plain (Some Plain) worth = worth
-  if_plain (Some A) worth = None
-  if_plain (Some B) worth = None
-  if_plain (Some C) worth = None
+  if_plain other worth = None
 
   -- the value of symbol k, of which a finished circuit has none
   abbrev pub symbol_value : Option (Finished V) → Account V → ℕ → Option V
   symbol_value None x k = if_plain (slice_get (marks x.given) k) (slice_index_or (filled m x.instances.kept x.witnesses.kept (lists x.given)) k None)
   symbol_value (Some done) x k = None
 
-  -- the value of a variable, or none where it is not known, or its value or one that it rests on is not kept
+  -- the value of a variable, or none where it is not known, where its value or one that it rests on is not kept, and for a constraint's own
+  -- list and every symbol of a finished circuit
   abbrev pub value_of : Account V → Variable → Option V
   value_of x Zero = Some m.zero
   value_of x One = Some m.one
@@ -258,9 +279,8 @@ module _ {V : Type 0} (m : Model V) where
   matrices_from x done = matrices m x.instances.count (x.witnesses.count + length done.combinations) (rows_of x done)
 
   abbrev pub matrices_in : SynthesisMode → Account V → Finished V → Option (Matrices V)
-  matrices_in Setup x done = Some (matrices_from x done)
-  matrices_in (Prove true) x done = Some (matrices_from x done)
   matrices_in (Prove false) x done = None
+  matrices_in other x done = Some (matrices_from x done)
 
   abbrev pub matrices_of : Account V → Option (Finished V) → Option (Matrices V)
   matrices_of x None = None

@@ -1,5 +1,6 @@
 -- The calls with their answers, and the account of a list of them. Assumes nothing.
-use Rattle.std.specs.Prelude.{ℕ, ◌+◌, List, [], ◌∷◌, ◌++◌, length, Some, None, Ok, Err, Option, Result}
+use Rattle.std.specs.Prelude.{ℕ, List, [], ◌∷◌, ◌++◌, length, Ok, Err, Option, Result}
+use Rattle.std.specs.Result.{result_ok}
 use Rattle.field.specs.Laws.{Model}
 use Rattle.variables.specs.declared.Variable.{Variable}
 use Rattle.variables.specs.declared.Variable.TheVariants.{Instance, Witness, SymbolicLc}
@@ -9,7 +10,8 @@ use Rattle.account.specs.declared.SynthesisMode.{SynthesisMode}
 use Rattle.account.specs.declared.OptimizationGoal.{OptimizationGoal}
 use Rattle.account.specs.declared.SynthesisError.{SynthesisError}
 use Rattle.account.specs.Rows.{Row, Matrices}
-use Rattle.account.specs.Account.{Account, Effect, asks, checks, writes, sets_mode, sets_goal, names_instance, names_witness, names_lists, constrains, finalises, opened, changed, failing_of, value_of, matrices_of}
+use Rattle.account.specs.Given.{Given}
+use Rattle.account.specs.Account.{Account, plain_lists, constraint_lists, Effect, asks, checks, writes, sets_mode, sets_goal, names_instance, names_witness, names_lists, constrains, finalises, opened, changed, failing_of, value_of, matrices_of}
 
 -- A call, with what is handed in. A check and a question are lent a work table of this many places, which a finished circuit does not
 -- look at, and a writing tables of so many cells and row ends.
@@ -25,7 +27,8 @@ pub data Call (V : Type 0) : Type 0 where
   finalize : Call V
   to_matrices : (cells ends : ℕ) → Call V
 
--- what an accepted call answers: no more than that it was accepted, the variable that it named, the first row that fails or none, a value or none, matrices or none
+-- what an accepted call answers: no more than that it was accepted, the variable that it named, the first row that fails or none, a value
+-- or none, matrices or none
 pub data Answer (V : Type 0) : Type 0 where
   unit : Answer V
   named : Variable → Answer V
@@ -41,16 +44,12 @@ pub record Event (V : Type 0) : Type 0 where
 abbrev pub accepted : {V : Type 0} → Call V → Answer V → Event V
 accepted call answer = record { call = call; answer = Ok answer }
 
-abbrev pub if_ok : {V : Type 0} → Result V SynthesisError → Option V
-if_ok (Ok v) = Some v
-if_ok (Err e) = None
-
 -- what a call does where it is accepted
 abbrev pub effect_of : {V : Type 0} → Call V → Effect V
 effect_of (set_mode mode) = sets_mode mode
 effect_of (set_optimization_goal goal) = sets_goal goal
-effect_of (new_input_variable handed) = names_instance (if_ok handed)
-effect_of (new_witness_variable handed) = names_witness (if_ok handed)
+effect_of (new_input_variable handed) = names_instance (result_ok handed)
+effect_of (new_witness_variable handed) = names_witness (result_ok handed)
 effect_of (new_lc ts) = names_lists (ts ∷ [])
 effect_of (enforce_constraint a b c) = constrains a b c
 effect_of (which_is_unsatisfied work) = checks
@@ -58,52 +57,68 @@ effect_of (assigned_value work v) = asks
 effect_of finalize = finalises
 effect_of (to_matrices cells ends) = writes
 
--- the constraint that an effect brings, as it was written
+abbrev pub if_accepted : {V X : Type 0} → Result (Answer V) Told → List X → List X
+if_accepted (Ok answer) xs = xs
+if_accepted (Err refusal) xs = []
+
+-- what the accepted calls of a log bring, by their effects and in their order, where f says what an effect brings
+abbrev pub accepted_all : {V X : Type 0} → (Effect V → List X) → List (Event V) → List X
+accepted_all f [] = []
+accepted_all f (e ∷ es) = if_accepted e.answer (f (effect_of e.call)) ++ accepted_all f es
+
+-- constraints, as they were written
 abbrev pub constraint_in : {V : Type 0} → Effect V → List (Row (List (Term V)))
-constraint_in asks = []
-constraint_in checks = []
-constraint_in writes = []
-constraint_in (sets_mode mode) = []
-constraint_in (sets_goal goal) = []
-constraint_in (names_instance v) = []
-constraint_in (names_witness v) = []
-constraint_in (names_lists ls) = []
 constraint_in (constrains a b c) = record { a = a; b = b; c = c } ∷ []
-constraint_in finalises = []
+constraint_in other = []
 
--- the instances and the witnesses that an effect names
-abbrev pub named_in : {V : Type 0} → Effect V → ℕ × ℕ
-named_in asks = (0, 0)
-named_in checks = (0, 0)
-named_in writes = (0, 0)
-named_in (sets_mode mode) = (0, 0)
-named_in (sets_goal goal) = (0, 0)
-named_in (names_instance v) = (1, 0)
-named_in (names_witness v) = (0, 1)
-named_in (names_lists ls) = (0, 0)
-named_in (constrains a b c) = (0, 0)
-named_in finalises = (0, 0)
-
-abbrev pub named_of : {V : Type 0} → Result (Answer V) Told → Effect V → ℕ × ℕ
-named_of (Ok answer) effect = named_in effect
-named_of (Err refusal) effect = (0, 0)
-
--- how many instances and witnesses the accepted calls of a log named
-abbrev pub accepted_named : {V : Type 0} → List (Event V) → ℕ × ℕ
-accepted_named [] = (0, 0)
-accepted_named (e ∷ es) =
-    let here = named_of e.answer (effect_of e.call) in
-    let later = accepted_named es in
-    (here.0 + later.0, here.1 + later.1)
-
-abbrev pub constraint_of : {V : Type 0} → Result (Answer V) Told → Effect V → List (Row (List (Term V)))
-constraint_of (Ok answer) effect = constraint_in effect
-constraint_of (Err refusal) effect = []
-
--- the accepted constraints of a log, as they were written
 abbrev pub accepted_constraints : {V : Type 0} → List (Event V) → List (Row (List (Term V)))
-accepted_constraints [] = []
-accepted_constraints (e ∷ es) = constraint_of e.answer (effect_of e.call) ++ accepted_constraints es
+accepted_constraints log = accepted_all constraint_in log
+
+-- the lists that are kept in a mode, with their marks
+abbrev pub lists_in : {V : Type 0} → SynthesisMode → Effect V → List (Given V)
+lists_in mode (names_lists ls) = plain_lists ls
+lists_in mode (constrains a b c) = constraint_lists mode a b c
+lists_in mode other = []
+
+abbrev pub accepted_lists : {V : Type 0} → SynthesisMode → List (Event V) → List (Given V)
+accepted_lists mode log = accepted_all (lists_in mode) log
+
+-- instances and witnesses, each with what was handed in, where it was a value
+abbrev pub instance_in : {V : Type 0} → Effect V → List (Option V)
+instance_in (names_instance handed) = handed ∷ []
+instance_in other = []
+
+abbrev pub witness_in : {V : Type 0} → Effect V → List (Option V)
+witness_in (names_witness handed) = handed ∷ []
+witness_in other = []
+
+abbrev pub accepted_instances : {V : Type 0} → List (Event V) → List (Option V)
+accepted_instances log = accepted_all instance_in log
+
+abbrev pub accepted_witnesses : {V : Type 0} → List (Event V) → List (Option V)
+accepted_witnesses log = accepted_all witness_in log
+
+-- modes and goals that were set, and finalisings
+abbrev pub mode_in : {V : Type 0} → Effect V → List SynthesisMode
+mode_in (sets_mode mode) = mode ∷ []
+mode_in other = []
+
+abbrev pub goal_in : {V : Type 0} → Effect V → List OptimizationGoal
+goal_in (sets_goal goal) = goal ∷ []
+goal_in other = []
+
+abbrev pub finalising_in : {V : Type 0} → Effect V → List (Effect V)
+finalising_in finalises = finalises ∷ []
+finalising_in other = []
+
+abbrev pub accepted_modes : {V : Type 0} → List (Event V) → List SynthesisMode
+accepted_modes log = accepted_all mode_in log
+
+abbrev pub accepted_goals : {V : Type 0} → List (Event V) → List OptimizationGoal
+accepted_goals log = accepted_all goal_in log
+
+abbrev pub accepted_finalisings : {V : Type 0} → List (Event V) → List (Effect V)
+accepted_finalisings log = accepted_all finalising_in log
 
 module _ {V : Type 0} (m : Model V) where
   -- what a call answers where it is accepted

@@ -1,5 +1,6 @@
 -- When a call is accepted, as conditions. Assumes nothing.
 use Rattle.std.specs.Prelude.{◌≡◌, ◌+◌, ◌≤◌, ◌↔◌, [], length, Some, None}
+use Rattle.std.specs.Result.{result_ok}
 use Rattle.field.specs.Laws.{Model}
 use Rattle.variables.specs.Refusals.{Told}
 use Rattle.variables.specs.declared.LcIndex.{LcIndex}
@@ -7,8 +8,8 @@ use Rattle.variables.specs.declared.Variable.TheVariants.{SymbolicLc}
 use Rattle.account.specs.Given.{marks, lists, KnownVariable}
 use Rattle.account.specs.Finish.{places}
 use Rattle.account.specs.Rows.{Matrices}
-use Rattle.account.specs.Account.{Account, KeepsMatrices, KeepsValues, HasValue, Checkable, KnownAt, added_count, rule_of, matrices_of}
-use Rattle.account.specs.Calls.{Call, set_mode, set_optimization_goal, new_input_variable, new_witness_variable, new_lc, enforce_constraint, which_is_unsatisfied, assigned_value, finalize, to_matrices, if_ok}
+use Rattle.account.specs.Account.{Account, KeepsMatrices, KeepsValues, HasValue, Checkable, KnownAt, witness_count, rule_of, matrices_of}
+use Rattle.account.specs.Calls.{Call, set_mode, set_optimization_goal, new_input_variable, new_witness_variable, new_lc, enforce_constraint, which_is_unsatisfied, assigned_value, finalize, to_matrices}
 use Rattle.account.specs.Refusals.{Lengths, opening_refusal, limit, capacity, value_places, used_terms, used_entries, room_of, start_of, refusal}
 use Rattle.account.specs.Laws.{FindsPlaces}
 
@@ -25,14 +26,14 @@ pub record Fits {V : Type 0} (k : Lengths) (x : Account V) : Type 0 where
   pub entries : used_entries x ≤ capacity k.index
   pub first : (KeepsValues x.mode → ⊥) → 1 ≤ capacity k.instances
   pub instances : KeepsValues x.mode → x.instances.count ≤ capacity k.instances
-  pub witnesses : KeepsValues x.mode → x.witnesses.count + added_count x.finished ≤ capacity k.witnesses
+  pub witnesses : KeepsValues x.mode → witness_count x ≤ capacity k.witnesses
 
 module _ {V : Type 0} (m : Model V) where
   abbrev pub Conditions : Lengths → Account V → Call V → Type 0
   Conditions k x (set_mode mode) = Fresh x
   Conditions k x (set_optimization_goal goal) = Fresh x
-  Conditions k x (new_input_variable handed) = (x.instances.count + 1 ≤ value_places x.mode k.instances) × HasValue x.mode (if_ok handed)
-  Conditions k x (new_witness_variable handed) = (x.witnesses.count + 1 ≤ value_places x.mode k.witnesses) × HasValue x.mode (if_ok handed)
+  Conditions k x (new_input_variable handed) = (x.instances.count + 1 ≤ value_places x.mode k.instances) × HasValue x.mode (result_ok handed)
+  Conditions k x (new_witness_variable handed) = (x.witnesses.count + 1 ≤ value_places x.mode k.witnesses) × HasValue x.mode (result_ok handed)
   Conditions k x (new_lc ts) = (used_entries x + 1 ≤ capacity k.index) × (used_terms x + length ts ≤ capacity k.terms) × KnownAt x ts
   -- bare mode asks for no places
   Conditions k x (enforce_constraint a b c) =
@@ -40,17 +41,17 @@ module _ {V : Type 0} (m : Model V) where
       × (KeepsMatrices x.mode → (used_entries x + 3 ≤ capacity k.index) × (used_terms x + (length a + length b + length c) ≤ capacity k.terms))
       × KnownAt x a × KnownAt x b × KnownAt x c
   -- the work table is for an open circuit
-  Conditions k x (which_is_unsatisfied work) = Fits k x × Checkable x.mode x × (x.finished ≡ None → used_entries x ≤ capacity work)
+  Conditions k x (which_is_unsatisfied work) = Fits k x × Checkable x.mode x × (x.finished ≡ None → used_entries x ≤ work)
   -- .. and here for a known symbol
   Conditions k x (assigned_value work v) =
       Fits k x
-      × ((j : LcIndex) → v ≡ SymbolicLc j → KnownVariable x.instances.count x.witnesses.count (marks x.given) v → x.finished ≡ None → used_entries x ≤ capacity work)
+      × ((j : LcIndex) → v ≡ SymbolicLc j → KnownVariable x.instances.count x.witnesses.count (marks x.given) v → x.finished ≡ None → used_entries x ≤ work)
   -- every step of finalising finds its places
   Conditions k x finalize =
-      Fits k x × (KeepsMatrices x.mode → FindsPlaces m (rule_of x.goal (lists x.given)) (room_of k x) (start_of x) (places (lists x.given)) (lists x.given))
+      Fits k x × (KeepsMatrices x.mode → FindsPlaces m (rule_of m x.goal (lists x.given)) (room_of k x) (start_of x) (places (lists x.given)) (lists x.given))
   Conditions k x (to_matrices cells ends) =
       Fits k x
-      × ((answer : Matrices V) → matrices_of m x x.finished ≡ Some answer → (length answer.cells ≤ capacity cells) × (length answer.ends ≤ capacity ends))
+      × ((answer : Matrices V) → matrices_of m x x.finished ≡ Some answer → (length answer.cells ≤ cells) × (length answer.ends ≤ ends))
 
   -- a call is accepted exactly where these hold
   abbrev pub AcceptedWhen : Type 0

@@ -1,18 +1,11 @@
 -- What is worked out at kept values, list by list. Assumes nothing.
 use Rattle.std.specs.Prelude.{ℕ, suc, cond, List, [], ◌∷◌, ◌++◌, Some, None, Option}
+use Rattle.std.specs.Option.{option_map, option_to_list, unwrap_or}
 use Rattle.field.specs.Laws.{Model}
 use Rattle.variables.specs.declared.Term.{Term}
 use Rattle.variables.specs.Evaluate.{read, evaluated}
 use Rattle.account.specs.Finish.{Outlined}
 use Rattle.account.specs.Rows.{Row}
-
-abbrev pub if_any : {X : Type 0} → Option X → List X
-if_any None = []
-if_any (Some x) = x ∷ []
-
-abbrev pub one_later : Option ℕ → Option ℕ
-one_later None = None
-one_later (Some j) = Some (suc j)
 
 module _ {V : Type 0} (m : Model V) where
   -- The work table, in rising order, after the places of `named`: each list at the kept values and the places before it, or nothing where
@@ -30,17 +23,16 @@ module _ {V : Type 0} (m : Model V) where
   abbrev pub added_after : List V → List V → List V → List (Outlined V) → List V
   added_after instances witnesses added [] = added
   added_after instances witnesses added (o ∷ os) =
-      added_after instances witnesses (added ++ if_any (evaluated m (read m instances (witnesses ++ added) []) o.merged)) os
+      added_after instances witnesses (added ++ option_to_list (evaluated m (read m instances (witnesses ++ added) []) o.merged)) os
 
   abbrev pub added_values : List V → List V → List (Outlined V) → List V
   added_values instances witnesses os = added_after instances witnesses [] os
 
-  -- a value, or zero for one that is missing; where a check is accepted none is
+  -- a value, or zero for one that is missing; where a check is accepted none is missing
   abbrev pub or_zero : Option V → V
-  or_zero None = m.zero
-  or_zero (Some v) = v
+  or_zero o = unwrap_or o m.zero
 
   -- the first row of values that fails the test, or none
   abbrev pub failing : List (Row V) → Option ℕ
   failing [] = None
-  failing (r ∷ rs) = cond (m.same (m.times r.a r.b) r.c) (one_later (failing rs)) (Some 0)
+  failing (r ∷ rs) = cond (m.same (m.times r.a r.b) r.c) (option_map suc (failing rs)) (Some 0)

@@ -3,7 +3,7 @@ use Rattle.std.specs.Prelude.{ℕ, ◌+◌, ◌*◌, max, Bool, false, cond, Lis
 use Rattle.std.specs.List.{flat_map}
 use Rattle.field.specs.Laws.{Model}
 use Rattle.variables.specs.declared.Variable.{Variable}
-use Rattle.variables.specs.declared.Variable.TheVariants.{Zero, One, Instance, Witness, SymbolicLc}
+use Rattle.variables.specs.declared.Variable.TheVariants.{Witness, SymbolicLc}
 use Rattle.variables.specs.declared.Term.{Term}
 use Rattle.variables.specs.Refusals.{Told, refused}
 use Rattle.variables.specs.Terms.{term, once, scaled}
@@ -18,11 +18,8 @@ outline_none entry merged = false
 
 -- 1 where a variable names entry k, else 0
 abbrev pub names : ℕ → Variable → ℕ
-names k Zero = 0
-names k One = 0
-names k (Instance i) = 0
-names k (Witness i) = 0
 names k (SymbolicLc j) = cond (j.0 == k) 1 0
+names k other = 0
 
 -- how often a list names entry k
 abbrev pub uses_in : {V : Type 0} → ℕ → List (Term V) → ℕ
@@ -34,9 +31,13 @@ abbrev pub uses : {V : Type 0} → List (List (Term V)) → ℕ → ℕ
 uses [] k = 0
 uses (l ∷ ls) k = uses_in k l + uses ls k
 
--- Weight: with u the uses plus 1 and n the length, u × n > u + 2 + n
+-- u × n > u + 2 + n
+abbrev pub outweighs : (u n : ℕ) → Bool
+outweighs u n = nat_lt (u + 2 + n) (u * n)
+
+-- Weight: with u the uses plus 1 and n the length
 abbrev pub weighs_more : (uses n : ℕ) → Bool
-weighs_more uses n = let u = uses + 1 in nat_lt (u + 2 + n) (u * n)
+weighs_more uses n = outweighs (uses + 1) n
 
 abbrev pub outline_by_weight : {V : Type 0} → List (List (Term V)) → Rule V
 outline_by_weight lists entry merged = weighs_more (uses lists entry) (length merged)
@@ -91,11 +92,8 @@ and_then (Err e) next = Err e
 module _ {V : Type 0} (m : Model V) where
   -- a symbol's term gives way to its finished list with every number multiplied by the term's
   abbrev pub replaced : List (List (Term V)) → V → Variable → List (Term V)
-  replaced finished k Zero = term k Zero ∷ []
-  replaced finished k One = term k One ∷ []
-  replaced finished k (Instance i) = term k (Instance i) ∷ []
-  replaced finished k (Witness i) = term k (Witness i) ∷ []
   replaced finished k (SymbolicLc j) = scaled m k (slice_index_or finished j.0 [])
+  replaced finished k v = term k v ∷ []
 
   -- a list written out
   abbrev pub expanded : List (List (Term V)) → List (Term V) → List (Term V)

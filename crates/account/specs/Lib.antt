@@ -1,12 +1,16 @@
 pub mod Given
 pub mod Worths
+pub mod Rests
 pub mod Finish
 pub mod Rows
 pub mod Evaluate
 pub mod Account
+pub mod Sound
 pub mod Calls
 pub mod Refusals
+pub mod Finished
 pub mod Conditions
+pub mod Causes
 pub mod Run
 pub mod Laws
 pub mod Promise

@@ -1,13 +1,14 @@
 -- When a call is refused, by the account and the lengths of the lent tables, in a run: every call is lent the same four tables as the
 -- call before left them. Assumes nothing.
 use Rattle.std.specs.Prelude.{ℕ, suc, ◌+◌, ◌-◌, ◌*◌, min, Bool, true, false, cond, not, ◌&&◌, List, [], ◌∷◌, length, Some, None, Ok, Err, Option, Result, ◌==◌, nat_lt, slice_index_or}
+use Rattle.std.specs.Result.{result_err}
 use Rattle.field.specs.Laws.{Model}
 use Rattle.variables.specs.declared.Variable.{Variable}
 use Rattle.variables.specs.declared.Variable.TheVariants.{Zero, One, Instance, Witness, SymbolicLc}
 use Rattle.variables.specs.declared.Term.{Term}
 use Rattle.variables.specs.Refusals.{Told}
 use Rattle.account.specs.declared.Mark.{Mark}
-use Rattle.account.specs.declared.Mark.TheVariants.{Plain, A, B, C}
+use Rattle.account.specs.declared.Mark.TheVariants.{Plain, A}
 use Rattle.account.specs.declared.SynthesisMode.{SynthesisMode}
 use Rattle.account.specs.declared.SynthesisMode.TheVariants.{Setup, Prove}
 use Rattle.account.specs.declared.SynthesisError.{SynthesisError}
@@ -15,7 +16,7 @@ use Rattle.account.specs.declared.SynthesisError.TheVariants.{MissingCS, Assignm
 use Rattle.account.specs.Given.{marks, lists}
 use Rattle.account.specs.Finish.{Room, Start, Stage, untaken, places, lacks, finish_within}
 use Rattle.account.specs.Rows.{Matrices}
-use Rattle.account.specs.Account.{Finished, Account, fresh, added_count, rule_of, matrices_of}
+use Rattle.account.specs.Account.{Finished, Account, fresh, added_count, witness_count, rule_of, matrices_of}
 use Rattle.account.specs.Calls.{Call, set_mode, set_optimization_goal, new_input_variable, new_witness_variable, new_lc, enforce_constraint, which_is_unsatisfied, assigned_value, finalize, to_matrices}
 
 -- the lengths of the four tables that are lent to every call
@@ -25,7 +26,7 @@ pub record Lengths : Type 0 where
   pub instances : ℕ
   pub witnesses : ℕ
 
--- Of a longer table only this many places count, and no count goes past it.
+-- Of a longer one of these tables only this many places count. All places of a table for an answer do.
 abbrev pub limit : ℕ
 limit = 1048576
 
@@ -61,9 +62,7 @@ error_number UnconstrainedVariable = 8
 -- 16: a constraint's own list
 abbrev pub own_list : Mark → Option ℕ
 own_list Plain = None
-own_list A = Some 16
-own_list B = Some 16
-own_list C = Some 16
+own_list other = Some 16
 
 -- 15: any other variable that is not known
 abbrev pub variable_refusal : ℕ → ℕ → List Mark → Variable → Option ℕ
@@ -134,7 +133,7 @@ module _ {V : Type 0} where
   abbrev pub values_fit : SynthesisMode → Lengths → Account V → Bool
   values_fit Setup k x = not (lacks 1 (capacity k.instances))
   values_fit (Prove matrices) k x =
-      not (lacks x.instances.count (capacity k.instances)) && not (lacks (x.witnesses.count + added_count x.finished) (capacity k.witnesses))
+      not (lacks x.instances.count (capacity k.instances)) && not (lacks (witness_count x) (capacity k.witnesses))
 
   abbrev pub fits : Lengths → Account V → Bool
   fits k x =
@@ -151,7 +150,7 @@ module _ {V : Type 0} where
 
   -- 19: of an open circuit, in every mode, a work table shorter than the entries
   abbrev pub work_refusal : Option (Finished V) → ℕ → Account V → Option Told
-  work_refusal None work x = when (lacks (used_entries x) (capacity work)) 19
+  work_refusal None work x = when (lacks (used_entries x) work) 19
   work_refusal (Some done) work x = None
 
   -- a question needs the work table for a known symbol alone
@@ -167,7 +166,7 @@ module _ {V : Type 0} where
   abbrev pub writing_refusal : (cells ends : ℕ) → Option (Matrices V) → Option Told
   writing_refusal cells ends None = None
   writing_refusal cells ends (Some answer) =
-      first (when (lacks (length answer.cells) (capacity cells)) 19 ∷ when (lacks (length answer.ends) (capacity ends)) 19 ∷ [])
+      first (when (lacks (length answer.cells) cells) 19 ∷ when (lacks (length answer.ends) ends) 19 ∷ [])
 
   -- the places that finalising has, and what is there at its start
   abbrev pub room_of : Lengths → Account V → Room
@@ -180,16 +179,11 @@ module _ {V : Type 0} where
   abbrev pub start_of : Account V → Start
   start_of x = record { witnesses = x.witnesses.count; entries = length x.given }
 
-  -- 14, 12 and 13 of finalising
-  abbrev pub refusal_in : Result (Stage V) Told → Option Told
-  refusal_in (Ok stage) = None
-  refusal_in (Err refusal) = Some refusal
-
 module _ {V : Type 0} (m : Model V) where
   -- the steps of finalising in the places that there are
   abbrev pub stages_of : Lengths → Account V → Result (Stage V) Told
   stages_of k x =
-      finish_within m (rule_of x.goal (lists x.given)) (room_of k x) (start_of x) (record { lists = untaken; used = places (lists x.given) }) (lists x.given)
+      finish_within m (rule_of m x.goal (lists x.given)) (room_of k x) (start_of x) (record { lists = untaken; used = places (lists x.given) }) (lists x.given)
 
   -- the tests of a call in their order
   abbrev pub tests : Lengths → Account V → Call V → List (Option Told)
@@ -206,7 +200,7 @@ module _ {V : Type 0} (m : Model V) where
       ∷ list_refusal x 0 a ∷ list_refusal x 1 b ∷ list_refusal x 2 c ∷ []
   tests k x (which_is_unsatisfied work) = unsound k x ∷ check_refusal x.mode x ∷ work_refusal x.finished work x ∷ []
   tests k x (assigned_value work v) = unsound k x ∷ question_refusal work x v ∷ []
-  tests k x finalize = unsound k x ∷ unless_bare x.mode (refusal_in (stages_of k x)) ∷ []
+  tests k x finalize = unsound k x ∷ unless_bare x.mode (result_err (stages_of k x)) ∷ []
   tests k x (to_matrices cells ends) = unsound k x ∷ writing_refusal cells ends (matrices_of m x x.finished) ∷ []
 
   -- when a call is refused, and how

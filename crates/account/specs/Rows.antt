@@ -1,13 +1,13 @@
 -- Rows, when they hold, and the matrices that are written of them. Assumes nothing.
-use Rattle.std.specs.Prelude.{◌≡◌, ℕ, suc, ◌+◌, cond, List, [], ◌∷◌, ◌++◌, map, length, Some, None, Option, ◌==◌, slice_index_or, slice_range}
+use Rattle.std.specs.Prelude.{◌≡◌, ℕ, suc, ◌+◌, cond, List, [], ◌∷◌, ◌++◌, map, length, fold, Some, None, Option, ◌==◌, slice_index_or, slice_range}
 use Rattle.std.specs.List.{flat_map, range_with_len, AllByRecursion}
 use Rattle.field.specs.Laws.{Model}
-use Rattle.variables.specs.declared.Variable.{Variable}
-use Rattle.variables.specs.declared.Variable.TheVariants.{Zero, One, Instance, Witness, SymbolicLc}
+use Rattle.variables.specs.declared.Variable.TheVariants.{One, Witness}
 use Rattle.variables.specs.declared.Term.{Term}
+use Rattle.variables.specs.Questions.{column}
 use Rattle.variables.specs.Worth.{value, worth}
 use Rattle.account.specs.declared.Mark.{Mark}
-use Rattle.account.specs.declared.Mark.TheVariants.{Plain, A, B, C}
+use Rattle.account.specs.declared.Mark.TheVariants.{A, B, C}
 use Rattle.account.specs.Given.{Given, marks, lists}
 use Rattle.account.specs.Worths.{worths}
 use Rattle.account.specs.Finish.{Outlined, Finishing, single}
@@ -23,10 +23,8 @@ each f r = record { a = f r.a; b = f r.b; c = f r.c }
 -- the entries marked A, of those from k on
 abbrev pub starts_from : ℕ → List Mark → List ℕ
 starts_from k [] = []
-starts_from k (Plain ∷ ms) = starts_from (suc k) ms
 starts_from k (A ∷ ms) = k ∷ starts_from (suc k) ms
-starts_from k (B ∷ ms) = starts_from (suc k) ms
-starts_from k (C ∷ ms) = starts_from (suc k) ms
+starts_from k (other ∷ ms) = starts_from (suc k) ms
 
 -- what stands at k and the two places after it
 abbrev pub row_at : {X : Type 0} → X → List X → ℕ → Row X
@@ -84,6 +82,10 @@ abbrev pub ends_from : {X : Type 0} → ℕ → List (List X) → List ℕ
 ends_from k [] = []
 ends_from k (l ∷ ls) = (k + length l) ∷ ends_from (k + length l) ls
 
+-- the last of some, or what was there before them
+abbrev pub last_of : {X : Type 0} → X → List X → X
+last_of before xs = fold (λ old new. new) before xs
+
 abbrev pub concatenated : {X : Type 0} → List (List X) → List X
 concatenated ls = flat_map (λ l. l) ls
 
@@ -123,20 +125,14 @@ module _ {V : Type 0} (m : Model V) where
   abbrev pub finished_lists : Finishing V → List (List (Term V))
   finished_lists f = f.finished ++ row_lists (map added_row f.outlined)
 
-  -- One is column 0, Instance(i) column i, and the witnesses come after the n instances. A number that stands for zero and the variable
-  -- Zero give no cell, nor would a symbol, of which a finished row has none.
-  abbrev pub nonzero : V → ℕ → List (Cell V)
-  nonzero k j = cond (m.same k m.zero) [] (record { number = k; column = j } ∷ [])
-
-  abbrev pub cell : ℕ → V → Variable → List (Cell V)
-  cell n k Zero = []
-  cell n k One = nonzero k 0
-  cell n k (Instance i) = nonzero k i
-  cell n k (Witness i) = nonzero k (n + i)
-  cell n k (SymbolicLc j) = []
+  -- The cell of a term: the witnesses come after the n instances. A number that stands for zero and the variable Zero, which has no
+  -- column, give no cell, nor would a symbol, of which a finished row has none.
+  abbrev pub cell_at : V → Option ℕ → List (Cell V)
+  cell_at k None = []
+  cell_at k (Some j) = cond (m.same k m.zero) [] (record { number = k; column = j } ∷ [])
 
   abbrev pub cells : ℕ → List (Term V) → List (Cell V)
-  cells n ts = flat_map (λ t. cell n t.number t.variable) ts
+  cells n ts = flat_map (λ t. cell_at t.number (column n t.variable)) ts
 
   -- the matrix entry of a row at column j: the cells of one column add up
   abbrev pub entry_at : List (Cell V) → ℕ → Member

@@ -1,4 +1,4 @@
--- What a variable, a list of terms and each of a row of lists are worth under a vector. Assumes nothing.
+-- What a variable and a list of terms are worth under a vector. Assumes nothing.
 use Rattle.std.specs.Prelude.{ℕ, ◌+◌, List, [], ◌∷◌, slice_index_or}
 use Rattle.field.specs.Laws.{Model}
 use Rattle.variables.specs.declared.Variable.{Variable}
