@@ -10,12 +10,13 @@ use Rattle.account.specs.declared.SynthesisMode.{SynthesisMode}
 use Rattle.account.specs.declared.SynthesisMode.TheVariants.{Setup, Prove}
 use Rattle.account.specs.declared.OptimizationGoal.{OptimizationGoal}
 use Rattle.account.specs.declared.OptimizationGoal.TheVariants.{Constraints}
-use Rattle.account.specs.Given.{Given}
-use Rattle.account.specs.Rows.{Row, last_of}
-use Rattle.account.specs.Account.{Finished, Account, Effect, asks, checks, writes, sets_mode, sets_goal, names_instance, names_witness, names_lists, constrains, finalises, KeepsValues, HasValue, Allows, kept_value, plain_lists, fresh, opened, made_in, changed}
+use Rattle.account.specs.Given.{Given, marks, Triples, none, Known}
+use Rattle.account.specs.Rows.{Row, constraints as constraints_of, last_of}
+use Rattle.account.specs.Account.{Finished, Account, Effect, asks, checks, writes, sets_mode, sets_goal, names_instance, names_witness, names_lists, constrains, finalises, KeepsMatrices, KeepsValues, HasValue, Allows, kept_value, plain_lists, fresh, opened, made_in, changed}
 use Rattle.account.specs.Calls.{Call, Answer, Event, effect_of, after_answer, after, after_all, if_accepted, accepted_all, constraint_in, accepted_constraints, lists_in, accepted_lists, instance_in, witness_in, accepted_instances, accepted_witnesses, mode_in, goal_in, accepted_modes, accepted_goals, finalising_in, accepted_finalisings}
 use Rattle.account.specs.Run.{Lawful, Run}
-use Rattle.account.proofs.Sounds.{fresh_means}
+use Rattle.account.proofs.Indexes.{triples_append}
+use Rattle.account.proofs.Sounds.{Keeping, fresh_means, none_kept, known_changed, triples_in, written_in, bare_in}
 
 -- the last, where one more comes
 last_push : {X : Type 0} (before : X) (xs : List X) (x : X) → last_of before (xs ++ x ∷ []) ≡ x
@@ -47,21 +48,11 @@ module _ {V : Type 0} where
   all_push f [] e = append-nil (if_accepted e.answer (f (effect_of e.call)))
   all_push f (p ∷ past) e = ap (λ l. if_accepted p.answer (f (effect_of p.call)) ++ l) (all_push f past e) ∙ sym (append_assoc _ (accepted_all f past) _)
 
-  plain_nil : (ls : List (List (Term V))) → plain_lists ls ≡ [] → ls ≡ []
-  plain_nil ls e = nil_from_length ls (sym (length-map ls _) ∙ ap length e)
-
   -- where nothing was written, nothing was in any mode
   no_lists_in : (mode also : SynthesisMode) (e : Effect V) → lists_in mode e ≡ [] → constraint_in e ≡ [] → lists_in also e ≡ []
-  no_lists_in mode also asks h k = refl
-  no_lists_in mode also checks h k = refl
-  no_lists_in mode also writes h k = refl
-  no_lists_in mode also (sets_mode new) h k = refl
-  no_lists_in mode also (sets_goal goal) h k = refl
-  no_lists_in mode also (names_instance v) h k = refl
-  no_lists_in mode also (names_witness v) h k = refl
   no_lists_in mode also (names_lists ls) h k = h
   no_lists_in mode also (constrains p q r) h k = absurd (let z = ap length k in omega arith)
-  no_lists_in mode also finalises h k = refl
+  no_lists_in mode also other h k = refl
 
   abbrev pub totals : List (Event V) → Totals V
   totals log = record {
@@ -114,6 +105,11 @@ module _ {V : Type 0} where
     -- it is what the account has
     pub record Brought (t : Totals V) (x : Account V) : Type 0 where
       pub given : x.given ≡ t.lists x.mode
+      pub known : Known x.instances.count x.witnesses.count x.given
+      pub triples : (mode : SynthesisMode) → Triples (marks (t.lists mode))
+      pub as_written : (mode : SynthesisMode) → KeepsMatrices mode → constraints_of (t.lists mode) ≡ t.constraints
+      pub bare : (mode : SynthesisMode) → (KeepsMatrices mode → ⊥) → constraints_of (t.lists mode) ≡ []
+      pub in_setup : (KeepsValues x.mode → ⊥) → (x.instances.kept ≡ m.one ∷ []) × (x.witnesses.kept ≡ [])
       pub unlisted : (mode also : SynthesisMode) → t.lists mode ≡ [] → t.constraints ≡ [] → t.lists also ≡ []
       pub constraints : x.constraints ≡ length t.constraints
       pub instances : x.instances.count ≡ 1 + length t.instances
@@ -126,9 +122,14 @@ module _ {V : Type 0} where
       pub goal : x.goal ≡ last_of Constraints t.goals
       pub unfinished : (x.finished ≡ None) ↔ (t.finalisings ≡ [])
 
-    opened_brought : Brought (totals []) (opened m)
+    pub opened_brought : Brought (totals []) (opened m)
     opened_brought = record {
       given = refl;
+      known = record { terms = tt; triples = none };
+      triples = λ mode. none;
+      as_written = λ mode k. refl;
+      bare = λ mode k. refl;
+      in_setup = λ _. (refl, refl);
       unlisted = λ mode also h k. refl;
       constraints = refl;
       instances = refl;
@@ -149,6 +150,15 @@ module _ {V : Type 0} where
           let written = both_nil t.constraints (constraint_in e) k in
           ap₂ ◌++◌ (b.unlisted mode also lists.0 written.0) (no_lists_in mode also e lists.1 written.1)
 
+      triples_more : (e : Effect V) (mode : SynthesisMode) → Triples (marks (t.lists mode ++ lists_in mode e))
+      triples_more e mode = subst Triples (sym (map-append (λ (g : Given V). g.mark) (t.lists mode) (lists_in mode e))) (triples_append (b.triples mode) (triples_in mode e))
+
+      written_more : (e : Effect V) (mode : SynthesisMode) → KeepsMatrices mode → constraints_of (t.lists mode ++ lists_in mode e) ≡ t.constraints ++ constraint_in e
+      written_more e mode k = written_in mode (t.lists mode) e (b.triples mode) k ∙ ap (λ cs. cs ++ constraint_in e) (b.as_written mode k)
+
+      bare_more : (e : Effect V) (mode : SynthesisMode) → (KeepsMatrices mode → ⊥) → constraints_of (t.lists mode ++ lists_in mode e) ≡ []
+      bare_more e mode k = bare_in mode (t.lists mode) e (b.triples mode) k ∙ b.bare mode k
+
       less : {X : Type 0} (xs : List X) → xs ++ [] ≡ [] → xs ≡ []
       less xs e = sym (append-nil xs) ∙ e
 
@@ -164,6 +174,11 @@ module _ {V : Type 0} where
           let no_constraints : t.constraints ≡ [] = nil_from_length t.constraints (sym b.constraints ∙ new.no_constraint) in
           record {
             given = none_more x.given (t.lists mode) (new.no_list ∙ sym (b.unlisted x.mode mode (sym b.given ∙ new.no_list) no_constraints));
+            known = b.known;
+            triples = triples_more (sets_mode mode);
+            as_written = written_more (sets_mode mode);
+            bare = bare_more (sets_mode mode);
+            in_setup = λ _. (b.first_instance no_instances, b.no_witness no_witnesses);
             unlisted = unlisted_more (sets_mode mode);
             constraints = b.constraints ∙ ap length (sym (append-nil t.constraints));
             instances = b.instances ∙ ap (λ (l : List (Option V)). 1 + length l) (sym (append-nil t.instances));
@@ -177,18 +192,24 @@ module _ {V : Type 0} where
             unfinished = open_still x.finished refl;
           }
 
-      -- most effects bring little
+      -- an effect that leaves the mode alone
       module _ (e : Effect V) (y : Account V) where
         rest : y.mode ≡ x.mode → (y.goal ≡ last_of Constraints (t.goals ++ goal_in e)) → mode_in e ≡ []
-            → (y.given ≡ t.lists x.mode ++ lists_in x.mode e)
+            → (y.given ≡ t.lists x.mode ++ lists_in x.mode e) → Known y.instances.count y.witnesses.count y.given
+            → ((KeepsValues x.mode → ⊥) → (y.instances.kept ≡ m.one ∷ []) × (y.witnesses.kept ≡ []))
             → (y.constraints ≡ length (t.constraints ++ constraint_in e))
             → (y.instances.count ≡ 1 + length (t.instances ++ instance_in e)) → (y.witnesses.count ≡ length (t.witnesses ++ witness_in e))
             → (KeepsValues x.mode → map Some y.instances.kept ≡ Some m.one ∷ (t.instances ++ instance_in e))
             → (KeepsValues x.mode → map Some y.witnesses.kept ≡ t.witnesses ++ witness_in e)
             → (t.instances ++ instance_in e ≡ [] → y.instances.kept ≡ m.one ∷ []) → (t.witnesses ++ witness_in e ≡ [] → y.witnesses.kept ≡ [])
             → ((y.finished ≡ None) ↔ (t.finalisings ++ finalising_in e ≡ [])) → Brought (plus t e) y
-        rest mode goal modes given constraints instances witnesses ki kw fi nw still = record {
+        rest mode goal modes given known alone constraints instances witnesses ki kw fi nw still = record {
           given = given ∙ ap (λ i. t.lists i ++ lists_in i e) (sym mode);
+          known = known;
+          triples = triples_more e;
+          as_written = written_more e;
+          bare = bare_more e;
+          in_setup = λ k. alone (λ v. k (subst KeepsValues (sym mode) v));
           unlisted = unlisted_more e;
           constraints = constraints;
           instances = instances;
@@ -260,28 +281,34 @@ module _ {V : Type 0} where
       changed_brought writes ok = subst (λ u. Brought u x) (sym (nothing_changed writes (λ _. refl) refl refl refl refl refl refl)) b
       changed_brought (sets_mode mode) ok = mode_set mode ok
       changed_brought (sets_goal goal) ok =
-          rest (sets_goal goal) (changed m x (sets_goal goal)) refl (sym (last_push Constraints t.goals goal)) refl same_given same_constraints same_instances same_witnesses
+          rest (sets_goal goal) (changed m x (sets_goal goal)) refl (sym (last_push Constraints t.goals goal)) refl same_given
+          (known_changed m x (sets_goal goal) ok b.known) b.in_setup same_constraints same_instances same_witnesses
           same_kept_instances same_kept_witnesses same_first same_no_witness (open_still x.finished refl)
       changed_brought (names_instance v) ok =
-          rest (names_instance v) (changed m x (names_instance v)) refl same_goal refl same_given same_constraints
+          rest (names_instance v) (changed m x (names_instance v)) refl same_goal refl same_given (known_changed m x (names_instance v) ok b.known)
+          (λ k. let alone = b.in_setup k in (ap₂ ◌++◌ alone.0 (none_kept x.mode v k), alone.1)) same_constraints
           (omega (arith, b.instances, length_push t.instances v)) same_witnesses (λ k. kept_more x.mode v x.instances.kept ok k ∙ ap (λ l. l ++ v ∷ []) (b.kept_instances k))
           same_kept_witnesses (λ e. absurd (not_nil t.instances v e)) same_no_witness (open_still x.finished refl)
       changed_brought (names_witness v) ok =
-          rest (names_witness v) (changed m x (names_witness v)) refl same_goal refl same_given same_constraints same_instances
+          rest (names_witness v) (changed m x (names_witness v)) refl same_goal refl same_given (known_changed m x (names_witness v) ok b.known)
+          (λ k. let alone = b.in_setup k in (alone.0, ap₂ ◌++◌ alone.1 (none_kept x.mode v k))) same_constraints same_instances
           (omega (arith, b.witnesses, length_push t.witnesses v)) same_kept_instances (λ k. kept_more x.mode v x.witnesses.kept ok k ∙ ap (λ l. l ++ v ∷ []) (b.kept_witnesses k))
           same_first (λ e. absurd (not_nil t.witnesses v e)) (open_still x.finished refl)
       changed_brought (names_lists ls) ok =
-          rest (names_lists ls) (changed m x (names_lists ls)) refl same_goal refl (ap (λ l. l ++ plain_lists ls) b.given) same_constraints same_instances same_witnesses
+          rest (names_lists ls) (changed m x (names_lists ls)) refl same_goal refl (ap (λ l. l ++ plain_lists ls) b.given)
+          (known_changed m x (names_lists ls) ok b.known) b.in_setup same_constraints same_instances same_witnesses
           same_kept_instances same_kept_witnesses same_first same_no_witness (open_still x.finished refl)
       changed_brought (constrains p q r) ok =
           rest (constrains p q r) (changed m x (constrains p q r)) refl same_goal refl (ap (λ l. l ++ lists_in x.mode (constrains p q r)) b.given)
+          (known_changed m x (constrains p q r) ok b.known) b.in_setup
           (omega (arith, b.constraints, length_push t.constraints (record { a = p; b = q; c = r }))) same_instances same_witnesses
           same_kept_instances same_kept_witnesses same_first same_no_witness (open_still x.finished refl)
       changed_brought finalises ok =
-          rest finalises (changed m x finalises) refl same_goal refl same_given same_constraints same_instances same_witnesses
+          rest finalises (changed m x finalises) refl same_goal refl same_given
+          (known_changed m x finalises ok b.known) b.in_setup same_constraints same_instances same_witnesses
           same_kept_instances same_kept_witnesses same_first same_no_witness (finished_now (made_in m x.mode x))
 
-    event_brought : (past : List (Event V)) (x : Account V) (call : Call V) (answer : Result (Answer V) Told) → Lawful m x call answer → Brought (totals past) x
+    pub event_brought : (past : List (Event V)) (x : Account V) (call : Call V) (answer : Result (Answer V) Told) → Lawful m x call answer → Brought (totals past) x
         → Brought (totals (past ++ record { call = call; answer = answer } ∷ [])) (after_answer m answer x (effect_of call))
     event_brought past x call (Ok a) ok b =
         subst (λ t. Brought t (changed m x (effect_of call))) (sym (accepted_totals past call a)) (changed_brought (totals past) x b (effect_of call) ok.1)
@@ -295,3 +322,25 @@ module _ {V : Type 0} where
 
     pub log_brought : (log : List (Event V)) → Run m (opened m) log → Brought (totals log) (after_all m (opened m) log)
     log_brought log run = brought_run log [] (opened m) run opened_brought
+
+    -- what the promise needs of an account is read off what was brought
+    first_kept : (xs : List V) (a : V) (rest : List (Option V)) → map Some xs ≡ Some a ∷ rest → (more : List V) × (xs ≡ a ∷ more)
+    first_kept [] a rest e = absurd (let z = ap length e in omega arith)
+    first_kept (x ∷ xs) a rest e = (xs, ap (λ y. y ∷ xs) (let z : Some x ≡ Some a = cc in cc))
+
+    begins_by : (mode : SynthesisMode) (t : Totals V) (x : Account V) → x.mode ≡ mode → Brought t x → (rest : List V) × (x.instances.kept ≡ m.one ∷ rest)
+    begins_by Setup t x e b = ([], (b.in_setup (λ k. subst KeepsValues e k)).0)
+    begins_by (Prove matrices) t x e b = first_kept x.instances.kept m.one t.instances (b.kept_instances (subst KeepsValues (sym e) tt))
+
+    pub kept_so : (t : Totals V) (x : Account V) → Brought t x → Keeping m t.constraints x
+    kept_so t x b = record {
+      known = b.known;
+      as_written = λ k. ap (λ g. constraints_of g) b.given ∙ b.as_written x.mode k;
+      bare = λ k. ap (λ g. constraints_of g) b.given ∙ b.bare x.mode k;
+      counted = b.constraints;
+      begins = begins_by x.mode t x refl b;
+      in_setup = b.in_setup;
+      instances_kept = λ k. sym (length-map x.instances.kept Some) ∙ ap length (b.kept_instances k) ∙ omega (arith, b.instances);
+      witnesses_kept = λ k. sym (length-map x.witnesses.kept Some) ∙ ap length (b.kept_witnesses k) ∙ sym b.witnesses;
+      some_instance = omega (arith, b.instances);
+    }

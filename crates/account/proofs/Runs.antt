@@ -1,5 +1,5 @@
 -- The main promise, over any run. Assumes nothing.
-use Rattle.std.proofs.Common.{◌≡◌, ℕ, ◌+◌, true, false, List, [], ◌∷◌, ◌++◌, map, length, Some, None, Ok, Err, Result, sym, refl, ap, ◌∙◌, subst, ap₂, inl, inr, append_assoc, append-nil, arith}
+use Rattle.std.proofs.Common.{◌≡◌, ℕ, ◌+◌, true, false, List, [], ◌∷◌, ◌++◌, map, length, Some, None, Ok, Err, Result, sym, refl, ap, ◌∙◌, subst, ap₂, inl, inr, append_assoc, arith}
 use Rattle.std.specs.List.{slice_get}
 use Rattle.std.proofs.lemmas.List.{nil_from_length}
 use Rattle.std.specs.Result.{result_ok}
@@ -15,14 +15,14 @@ use Rattle.account.specs.declared.Mark.TheVariants.{Plain}
 use Rattle.account.specs.Given.{lists, marked}
 use Rattle.account.specs.Rows.{Row, each, constraints, FirstFailing, Holds, constraints_at, cells, Marlin, Matrices}
 use Rattle.account.specs.Account.{Finished, Account, KeepsMatrices, KeepsValues, HasValue, kept_value, builds, Checkable, Allows, rows_of, opened, all_kept_of, constraints_kept, made_in, changed, failing_of, value_of, matrices_from, matrices_in, matrices_of}
-use Rattle.account.specs.Calls.{Call, new_input_variable, new_witness_variable, new_lc, which_is_unsatisfied, assigned_value, finalize, to_matrices, Answer, unit, named, unsatisfied, assigned, written, Event, accepted, effect_of, if_accepted, constraint_in, accepted_constraints, accepted_instances, accepted_witnesses, answer_of, after_answer, after, after_all, account}
+use Rattle.account.specs.Calls.{Call, new_input_variable, new_witness_variable, new_lc, which_is_unsatisfied, assigned_value, finalize, to_matrices, Answer, unit, named, unsatisfied, assigned, written, Event, accepted, effect_of, accepted_constraints, accepted_instances, accepted_witnesses, answer_of, after_answer, after, after_all, account}
 use Rattle.account.specs.Run.{Lawful, Run}
 use Rattle.account.specs.Laws.{WellFormed, ReadsBack, Admits}
 use Rattle.account.specs.Promise.{Accepted, Faithful, Checks, Questions, CountsWritten, Writes, Writings, AnyRefusals, GivenKnown, WrittenCounted, ChecksByMatrices, ChecksAgree}
 use Rattle.account.proofs.ReadsBack.{read_back}
 use Rattle.account.proofs.Finalises.{one_each}
-use Rattle.account.proofs.Sounds.{Keeping, opened_sound, sound_changed}
-use Rattle.account.proofs.Contents.{totals, Brought, log_brought}
+use Rattle.account.proofs.Sounds.{Keeping}
+use Rattle.account.proofs.Contents.{totals, Brought, opened_brought, event_brought, log_brought, kept_so}
 use Rattle.account.proofs.Extends.{slice_get_there, Extends, run_extends}
 use Rattle.account.proofs.SoundLists.{account_sound}
 use Rattle.account.proofs.Values.{finished_means, closed, left_alone, Right, opened_right, right_changed, value_means, check_keeps, check_right, check_marlin}
@@ -33,29 +33,21 @@ Constraints V = List (Row (List (Term V)))
 
 module _ {V : Type 0} where
   module _ {m : Model V} (keeps : Keeps m) where
-    -- one call more, accepted or refused
-    sound_event : (cs : Constraints V) (x : Account V) (call : Call V) (answer : Result (Answer V) Told) → Lawful m x call answer → Keeping m cs x
-        → Keeping m (cs ++ if_accepted answer (constraint_in (effect_of call))) (after_answer m answer x (effect_of call))
-    sound_event cs x call (Ok a) ok s = sound_changed m cs x (effect_of call) ok.1 s
-    sound_event cs x call (Err r) ok s = subst (λ l. Keeping m l x) (sym (append-nil cs)) s
-
-    right_event : (cs : Constraints V) (x : Account V) (call : Call V) (answer : Result (Answer V) Told) → Lawful m x call answer → Keeping m cs x → Right keeps x
+    right_event : (past : List (Event V)) (x : Account V) (call : Call V) (answer : Result (Answer V) Told) → Lawful m x call answer → Brought m (totals past) x → Right keeps x
         → Right keeps (after_answer m answer x (effect_of call))
-    right_event cs x call (Ok a) ok s r = right_changed keeps cs x (effect_of call) ok.0 s r
-    right_event cs x call (Err f) ok s r = r
+    right_event past x call (Ok a) ok b r = right_changed keeps (accepted_constraints past) x (effect_of call) ok.0 (kept_so m (totals past) x b) r
+    right_event past x call (Err f) ok b r = r
 
-    sound_run : (log : List (Event V)) (cs : Constraints V) (x : Account V) → Run m x log → Keeping m cs x → Keeping m (cs ++ accepted_constraints log) (after_all m x log)
-    sound_run [] cs x run s = subst (λ l. Keeping m l x) (sym (append-nil cs)) s
-    sound_run (e ∷ es) cs x run s =
-        let new = if_accepted e.answer (constraint_in (effect_of e.call)) in
-        subst (λ l. Keeping m l (after_all m (after m x e) es)) (append_assoc cs new (accepted_constraints es))
-        (sound_run es (cs ++ new) (after m x e) run.1 (sound_event cs x e.call e.answer run.0 s))
+    right_run : (log past : List (Event V)) (x : Account V) → Run m x log → Brought m (totals past) x → Right keeps x → Right keeps (after_all m x log)
+    right_run [] past x run b r = r
+    right_run (e ∷ es) past x run b r =
+        right_run es (past ++ e ∷ []) (after m x e) run.1 (event_brought m past x e.call e.answer run.0 b) (right_event past x e.call e.answer run.0 b r)
 
-    right_run : (log : List (Event V)) (cs : Constraints V) (x : Account V) → Run m x log → Keeping m cs x → Right keeps x → Right keeps (after_all m x log)
-    right_run [] cs x run s r = r
-    right_run (e ∷ es) cs x run s r =
-        right_run es (cs ++ if_accepted e.answer (constraint_in (effect_of e.call))) (after m x e) run.1
-        (sound_event cs x e.call e.answer run.0 s) (right_event cs x e.call e.answer run.0 s r)
+    log_right : (log : List (Event V)) → Run m (opened m) log → Right keeps (account m log)
+    log_right log run = right_run log [] (opened m) run (opened_brought m) (opened_right keeps)
+
+    log_kept : (log : List (Event V)) → Run m (opened m) log → Keeping m (accepted_constraints log) (account m log)
+    log_kept log run = kept_so m (totals log) (account m log) (log_brought m log run)
 
     pub run_past : (past rest : List (Event V)) (x : Account V) → Run m x (past ++ rest) → Run m x past
     run_past [] rest x run = tt
@@ -97,8 +89,8 @@ module _ {V : Type 0} where
         let before = run_past past (accepted call answer ∷ at.0) (opened m) run' in
         let ok = owed past at.0 (accepted call answer) (opened m) run' in
         record {
-          sound = sound_run past [] (opened m) before (opened_sound m);
-          right = right_run past [] (opened m) before (opened_sound m) (opened_right keeps);
+          sound = log_kept past before;
+          right = log_right past before;
           built = ok.0;
           allowed = ok.1;
           answers = ok.2;
@@ -262,8 +254,8 @@ module _ {V : Type 0} where
 
     pub any_refusals : AnyRefusals m
     any_refusals log run =
-        let sound = sound_run log [] (opened m) run (opened_sound m) in
-        let right = right_run log [] (opened m) run (opened_sound m) (opened_right keeps) in
+        let sound = log_kept log run in
+        let right = log_right log run in
         let brought = log_brought m log run in
         let at : (past : List (Event V)) (call : Call V) (a : Answer V) → Accepted m log past call a → Met log past call a = λ past call a is. met log past call a run is in
         record {

@@ -1,5 +1,5 @@
 -- What every account of a run keeps, call by call. Assumes nothing.
-use Rattle.std.proofs.Common.{◌≡◌, ℕ, suc, ◌+◌, ◌≤◌, true, false, eqb, List, [], ◌∷◌, ◌++◌, map, length, Some, None, Option, sym, refl, ap, ◌∙◌, subst, ap₂, append_assoc, append-nil, arith, length-append}
+use Rattle.std.proofs.Common.{◌≡◌, ℕ, suc, ◌≤◌, true, false, eqb, List, [], ◌∷◌, ◌++◌, map, length, Option, sym, refl, ap, ◌∙◌, subst, ap₂, append_assoc, append-nil, arith, length-append}
 use mathlib.Core.List.{map-append}
 use lib.ListN.{length-map}
 use Rattle.std.proofs.lemmas.List.{get_or_append_left, nil_from_length}
@@ -15,8 +15,8 @@ use Rattle.account.specs.declared.SynthesisMode.{SynthesisMode}
 use Rattle.account.specs.declared.SynthesisMode.TheVariants.{Setup, Prove}
 use Rattle.account.specs.Given.{Given, marks, lists, marked, KnownVariable, KnownTerms, KnownAfter, Triples, none, plain, triple, Known}
 use Rattle.account.specs.Rows.{Row, row_at, starts_from, constraints}
-use Rattle.account.specs.Account.{Account, Effect, asks, checks, writes, sets_mode, sets_goal, names_instance, names_witness, names_lists, constrains, finalises, KeepsMatrices, KeepsValues, kept_value, plain_lists, constraint_lists, fresh, HasValue, Allows, opened, changed}
-use Rattle.account.specs.Calls.{constraint_in}
+use Rattle.account.specs.Account.{Account, Effect, names_instance, names_witness, names_lists, constrains, KeepsMatrices, KeepsValues, kept_value, plain_lists, constraint_lists, fresh, Allows, changed}
+use Rattle.account.specs.Calls.{constraint_in, lists_in}
 use Rattle.account.specs.Conditions.{Fresh}
 use Rattle.account.proofs.Indexes.{triples_append, rows_append, index_rows}
 
@@ -120,8 +120,6 @@ module _ {V : Type 0} where
     pub instances_kept : KeepsValues x.mode → length x.instances.kept ≡ x.instances.count
     pub witnesses_kept : KeepsValues x.mode → length x.witnesses.kept ≡ x.witnesses.count
     pub some_instance : 1 ≤ x.instances.count
-    pub first_instance : x.instances.count ≡ 1 → length x.instances.kept ≡ 1
-    pub no_witness : x.witnesses.count ≡ 0 → length x.witnesses.kept ≡ 0
 
   pub fresh_means : (x : Account V) → fresh x ≡ true → Fresh x
   fresh_means x e =
@@ -135,138 +133,35 @@ module _ {V : Type 0} where
         no_constraint = eqb-true _ _ three.1;
       }
 
-  kept_more : (mode : SynthesisMode) (v : Option V) (kept : List V) → HasValue mode v → KeepsValues mode → length (kept ++ kept_value mode v) ≡ length kept + 1
-  kept_more Setup v kept h k = absurd k
-  kept_more (Prove matrices) None kept h k = absurd h
-  kept_more (Prove matrices) (Some v) kept h k = length-append kept (v ∷ [])
-
-  none_kept : (mode : SynthesisMode) (v : Option V) → (KeepsValues mode → ⊥) → kept_value mode v ≡ []
+  pub none_kept : (mode : SynthesisMode) (v : Option V) → (KeepsValues mode → ⊥) → kept_value mode v ≡ []
   none_kept Setup v k = refl
   none_kept (Prove matrices) v k = absurd (k tt)
 
-  module _ (m : Model V) where
-    -- one value is the first
-    first_alone : {cs : List (Row (List (Term V)))} (x : Account V) → Keeping m cs x → x.instances.count ≡ 1 → x.instances.kept ≡ m.one ∷ []
-    first_alone x s one =
-        let rest = s.begins.0 in
-        let long : length (m.one ∷ rest) ≡ 1 = sym (ap length s.begins.1) ∙ s.first_instance one in
-        s.begins.1 ∙ ap (λ l. m.one ∷ l) (nil_from_length rest (omega arith))
+  -- what an effect appends is known, and comes in threes
+  pub known_changed : (m : Model V) (x : Account V) (e : Effect V) → Allows x e → Known x.instances.count x.witnesses.count x.given
+      → let y = changed m x e in Known y.instances.count y.witnesses.count y.given
+  known_changed m x (names_instance v) ok k = known_wider _ _ _ _ (omega arith) (omega arith) x.given k
+  known_changed m x (names_witness v) ok k = known_wider _ _ _ _ (omega arith) (omega arith) x.given k
+  known_changed m x (names_lists ls) ok k = known_append _ _ x.given (plain_lists ls) k ok (all_plain ls)
+  known_changed m x (constrains a b c) ok k = known_lists _ _ x.mode x.given a b c k ok.0 ok.1 ok.2
+  known_changed m x other ok k = k
 
-    pub opened_sound : Keeping m [] (opened m)
-    opened_sound = record {
-      known = record { terms = tt; triples = none };
-      as_written = λ _. refl;
-      bare = λ _. refl;
-      counted = refl;
-      begins = ([], refl);
-      in_setup = λ _. (refl, refl);
-      instances_kept = λ _. refl;
-      witnesses_kept = λ _. refl;
-      some_instance = omega arith;
-      first_instance = λ _. refl;
-      no_witness = λ _. refl;
-    }
+  -- what an effect appends in a mode: triples, and the constraint as it was written, or in bare mode none
+  pub triples_in : (mode : SynthesisMode) (e : Effect V) → Triples (marks (lists_in mode e))
+  triples_in mode (names_lists ls) = all_plain ls
+  triples_in Setup (constrains a b c) = triple none
+  triples_in (Prove true) (constrains a b c) = triple none
+  triples_in (Prove false) (constrains a b c) = none
+  triples_in mode other = none
 
-    -- no constraint more
-    same_constraints : (cs : List (Row (List (Term V)))) (x : Account V) → Keeping m cs x → Keeping m (cs ++ []) x
-    same_constraints cs x s = subst (λ l. Keeping m l x) (sym (append-nil cs)) s
+  pub written_in : (mode : SynthesisMode) (given : List (Given V)) (e : Effect V) → Triples (marks given) → KeepsMatrices mode
+      → constraints (given ++ lists_in mode e) ≡ constraints given ++ constraint_in e
+  written_in mode given (names_lists ls) t k = constraints_plain given ls t ∙ sym (append-nil (constraints given))
+  written_in mode given (constrains a b c) t k = constraint_written mode given a b c t k
+  written_in mode given other t k = ap (λ g. constraints g) (append-nil given) ∙ sym (append-nil (constraints given))
 
-    pub sound_changed : (cs : List (Row (List (Term V)))) (x : Account V) (e : Effect V) → Allows x e → Keeping m cs x → Keeping m (cs ++ constraint_in e) (changed m x e)
-    sound_changed cs x asks ok s = same_constraints cs x s
-    sound_changed cs x checks ok s = same_constraints cs x s
-    sound_changed cs x writes ok s = same_constraints cs x s
-    sound_changed cs x (sets_mode mode) ok s =
-        let new = fresh_means x ok in
-        let none_written : constraints x.given ≡ [] = ap (λ g. constraints g) new.no_list in
-        let none_accepted : cs ≡ [] = nil_from_length cs (sym s.counted ∙ new.no_constraint) in
-        same_constraints cs (changed m x (sets_mode mode)) (record {
-          known = s.known;
-          as_written = λ _. none_written ∙ sym none_accepted;
-          bare = λ _. none_written;
-          counted = s.counted;
-          begins = s.begins;
-          in_setup = λ _. (first_alone x s new.one_instance, nil_from_length x.witnesses.kept (s.no_witness new.no_witness));
-          instances_kept = λ _. s.first_instance new.one_instance ∙ sym new.one_instance;
-          witnesses_kept = λ _. s.no_witness new.no_witness ∙ sym new.no_witness;
-          some_instance = s.some_instance;
-          first_instance = s.first_instance;
-          no_witness = s.no_witness;
-        })
-    sound_changed cs x (sets_goal goal) ok s = same_constraints cs (changed m x (sets_goal goal)) (record {
-      known = s.known;
-      as_written = s.as_written;
-      bare = s.bare;
-      counted = s.counted;
-      begins = s.begins;
-      in_setup = s.in_setup;
-      instances_kept = s.instances_kept;
-      witnesses_kept = s.witnesses_kept;
-      some_instance = s.some_instance;
-      first_instance = s.first_instance;
-      no_witness = s.no_witness;
-    })
-    sound_changed cs x (names_instance v) ok s = same_constraints cs (changed m x (names_instance v)) (record {
-      known = known_wider _ _ _ _ (omega arith) (omega arith) x.given s.known;
-      as_written = s.as_written;
-      bare = s.bare;
-      counted = s.counted;
-      begins = (s.begins.0 ++ kept_value x.mode v, ap (λ l. l ++ kept_value x.mode v) s.begins.1);
-      in_setup = λ k. (ap (λ l. x.instances.kept ++ l) (none_kept x.mode v k) ∙ append-nil x.instances.kept ∙ (s.in_setup k).0, (s.in_setup k).1);
-      instances_kept = λ k. kept_more x.mode v x.instances.kept ok k ∙ ap (λ j. j + 1) (s.instances_kept k);
-      witnesses_kept = s.witnesses_kept;
-      some_instance = omega arith;
-      first_instance = λ e. let some = s.some_instance in absurd (omega arith);
-      no_witness = s.no_witness;
-    })
-    sound_changed cs x (names_witness v) ok s = same_constraints cs (changed m x (names_witness v)) (record {
-      known = known_wider _ _ _ _ (omega arith) (omega arith) x.given s.known;
-      as_written = s.as_written;
-      bare = s.bare;
-      counted = s.counted;
-      begins = s.begins;
-      in_setup = λ k. ((s.in_setup k).0, ap (λ l. x.witnesses.kept ++ l) (none_kept x.mode v k) ∙ append-nil x.witnesses.kept ∙ (s.in_setup k).1);
-      instances_kept = s.instances_kept;
-      witnesses_kept = λ k. kept_more x.mode v x.witnesses.kept ok k ∙ ap (λ j. j + 1) (s.witnesses_kept k);
-      some_instance = s.some_instance;
-      first_instance = s.first_instance;
-      no_witness = λ e. absurd (omega arith);
-    })
-    sound_changed cs x (names_lists ls) ok s = same_constraints cs (changed m x (names_lists ls)) (record {
-      known = known_append _ _ x.given (plain_lists ls) s.known ok (all_plain ls);
-      as_written = λ k. constraints_plain x.given ls s.known.triples ∙ s.as_written k;
-      bare = λ k. constraints_plain x.given ls s.known.triples ∙ s.bare k;
-      counted = s.counted;
-      begins = s.begins;
-      in_setup = s.in_setup;
-      instances_kept = s.instances_kept;
-      witnesses_kept = s.witnesses_kept;
-      some_instance = s.some_instance;
-      first_instance = s.first_instance;
-      no_witness = s.no_witness;
-    })
-    sound_changed cs x (constrains a b c) ok s = record {
-      known = known_lists _ _ x.mode x.given a b c s.known ok.0 ok.1 ok.2;
-      as_written = λ k. constraint_written x.mode x.given a b c s.known.triples k ∙ ap (λ l. l ++ record { a = a; b = b; c = c } ∷ []) (s.as_written k);
-      bare = λ k. bare_written x.mode x.given a b c k ∙ s.bare k;
-      counted = omega (arith, s.counted, length-append cs (constraint_in (constrains a b c)));
-      begins = s.begins;
-      in_setup = s.in_setup;
-      instances_kept = s.instances_kept;
-      witnesses_kept = s.witnesses_kept;
-      some_instance = s.some_instance;
-      first_instance = s.first_instance;
-      no_witness = s.no_witness;
-    }
-    sound_changed cs x finalises ok s = same_constraints cs (changed m x finalises) (record {
-      known = s.known;
-      as_written = s.as_written;
-      bare = s.bare;
-      counted = s.counted;
-      begins = s.begins;
-      in_setup = s.in_setup;
-      instances_kept = s.instances_kept;
-      witnesses_kept = s.witnesses_kept;
-      some_instance = s.some_instance;
-      first_instance = s.first_instance;
-      no_witness = s.no_witness;
-    })
+  pub bare_in : (mode : SynthesisMode) (given : List (Given V)) (e : Effect V) → Triples (marks given) → (KeepsMatrices mode → ⊥)
+      → constraints (given ++ lists_in mode e) ≡ constraints given
+  bare_in mode given (names_lists ls) t k = constraints_plain given ls t
+  bare_in mode given (constrains a b c) t k = bare_written mode given a b c k
+  bare_in mode given other t k = ap (λ g. constraints g) (append-nil given)

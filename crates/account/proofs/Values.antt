@@ -21,7 +21,7 @@ use Rattle.account.specs.Worths.{worths}
 use Rattle.account.specs.Rows.{Row, each, row_at, starts_from, constraints, FirstFailing, Holds, rows_at, cells, Marlin}
 use Rattle.account.specs.Finish.{Rule, finish}
 use Rattle.account.specs.Evaluate.{filled, added_values, or_zero, failing}
-use Rattle.account.specs.Account.{Finished, Account, Effect, asks, checks, writes, sets_mode, sets_goal, names_instance, names_witness, names_lists, constrains, finalises}
+use Rattle.account.specs.Account.{Finished, Account, Effect, asks, checks, writes, finalises}
 use Rattle.account.specs.Account.{LeavesAlone, KeepsMatrices, KeepsValues, is_open, builds, Checkable, nothing_made, added_kept, rule_of, rows_of, opened, with_finished, kept_of, all_kept_of, constraints_kept, finish_of, made, made_in, changed, values_of, failing_of, if_plain, symbol_value, value_of}
 use Rattle.account.specs.Laws.{SymbolFreeRow, WellFormed, combination_worths, FailsAlike}
 use Rattle.account.specs.Promise.{Faithful}
@@ -51,13 +51,7 @@ module _ {V : Type 0} where
   left_alone x asks b done e = tt
   left_alone x checks b done e = tt
   left_alone x writes b done e = tt
-  left_alone x (sets_mode mode) b done e = absurd (closed x.finished done (open_means x.finished b) e)
-  left_alone x (sets_goal goal) b done e = absurd (closed x.finished done (open_means x.finished b) e)
-  left_alone x (names_instance v) b done e = absurd (closed x.finished done (open_means x.finished b) e)
-  left_alone x (names_witness v) b done e = absurd (closed x.finished done (open_means x.finished b) e)
-  left_alone x (names_lists ls) b done e = absurd (closed x.finished done (open_means x.finished b) e)
-  left_alone x (constrains p q r) b done e = absurd (closed x.finished done (open_means x.finished b) e)
-  left_alone x finalises b done e = absurd (closed x.finished done (open_means x.finished b) e)
+  left_alone x other b done e = absurd (closed x.finished done (open_means x.finished b) e)
 
   -- of an open circuit the value of a known variable is read off the work table
   pub value_read : (m : Model V) (x : Account V) → x.finished ≡ None → (v : Variable) → KnownVariable x.instances.count x.witnesses.count (marks x.given) v
@@ -164,18 +158,13 @@ module _ {V : Type 0} where
     right_changed cs x asks b s r = r
     right_changed cs x checks b s r = r
     right_changed cs x writes b s r = r
-    right_changed cs x (sets_mode mode) b s r = open_right (changed m x (sets_mode mode)) (open_means x.finished b)
-    right_changed cs x (sets_goal goal) b s r = open_right (changed m x (sets_goal goal)) (open_means x.finished b)
-    right_changed cs x (names_instance v) b s r = open_right (changed m x (names_instance v)) (open_means x.finished b)
-    right_changed cs x (names_witness v) b s r = open_right (changed m x (names_witness v)) (open_means x.finished b)
-    right_changed cs x (names_lists ls) b s r = open_right (changed m x (names_lists ls)) (open_means x.finished b)
-    right_changed cs x (constrains p q t) b s r = open_right (changed m x (constrains p q t)) (open_means x.finished b)
     right_changed cs x finalises b s r = record {
       faithful = λ k done e.
           let same : made_in m x.mode x ≡ done = cc in
           subst (λ d. Faithful m (changed m x finalises) (constraints x.given) d) same (made_right cs x s x.mode refl k);
       bare = λ k done e. let same : made_in m x.mode x ≡ done = cc in sym same ∙ bare_made x.mode x k;
     }
+    right_changed cs x other b s r = open_right (changed m x other) (open_means x.finished b)
 
     -- the first row that fails the test is the first that does not hold
     first_next : (xs : List (Row Member)) (r : Row Member) (answer : Option ℕ) → Holds m r → FirstFailing (Holds m) xs answer → FirstFailing (Holds m) (r ∷ xs) (option_map suc answer)

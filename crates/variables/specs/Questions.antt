@@ -28,7 +28,7 @@ abbrev pub lc_index : Variable → Option LcIndex
 lc_index (SymbolicLc k) = Some k
 lc_index other = None
 
--- One is column 0, Instance(i) column i, Witness(i) the offset plus i
+-- the column of a variable: One is column 0, Instance(i) column i, Witness(i) the offset plus i
 abbrev pub column : ℕ → Variable → Option ℕ
 column offset Zero = None
 column offset One = Some 0
@@ -36,10 +36,11 @@ column offset (Instance i) = Some i
 column offset (Witness i) = Some (offset + i)
 column offset (SymbolicLc k) = None
 
--- a number that is one of 64 bits
+-- a number where it is one of 64 bits, and else none
 abbrev pub if_word : Option ℕ → Option ℕ
 if_word None = None
 if_word (Some j) = cond (nat_lt j (2 ^ 64)) (Some j) None
 
+-- the column of a variable, where it is a number of 64 bits
 abbrev pub column_of : ℕ → Variable → Option ℕ
 column_of offset v = if_word (column offset v)
