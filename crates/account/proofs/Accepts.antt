@@ -12,13 +12,13 @@ use Rattle.variables.specs.Order.{kind}
 use Rattle.variables.specs.Refusals.{Told}
 use Rattle.account.specs.declared.SynthesisMode.{SynthesisMode}
 use Rattle.account.specs.declared.SynthesisMode.TheVariants.{Setup, Prove}
-use Rattle.account.specs.declared.SynthesisError.{SynthesisError}
+use Rattle.variables.specs.declared.SynthesisError.{SynthesisError}
 use Rattle.account.specs.Given.{marks, lists, KnownVariable}
 use Rattle.account.specs.Finish.{Stage, places, lacks}
 use Rattle.account.specs.Rows.{Matrices}
 use Rattle.account.specs.Account.{Finished, Account, KeepsMatrices, KeepsValues, fresh, HasValue, Checkable, KnownAt, added_count, rule_of, matrices_of}
 use Rattle.account.specs.Calls.{Call, set_mode, set_optimization_goal, new_input_variable, new_witness_variable, new_lc, enforce_constraint, which_is_unsatisfied, assigned_value, finalize, to_matrices}
-use Rattle.account.specs.Refusals.{Lengths, capacity, when, first, unless_bare, if_known, variable_refusal, value_refusal, list_refusal, used_entries, values_fit, fits, unsound, check_refusal, work_refusal, question_refusal, writing_refusal, room_of, start_of, stages_of, tests, refusal}
+use Rattle.account.specs.Refusals.{Lengths, capacity, value_places, when, first, unless_bare, if_known, variable_refusal, value_refusal, list_refusal, used_entries, values_fit, fits, unsound, check_refusal, work_refusal, question_refusal, writing_refusal, room_of, start_of, stages_of, tests, refusal}
 use Rattle.account.specs.Laws.{FindsPlaces}
 use Rattle.account.specs.Conditions.{Fresh, Fits, Conditions, AcceptedWhen, OpenedWhen}
 use Rattle.account.proofs.Refuses.{some_none, when_not, enough, first_none, some_is, variables_refused, lists_refused, not_symbol}
@@ -37,7 +37,7 @@ no_lack due places k h = ap (λ b. when b k) (le-ltb places due h)
 true_iff : (b : Bool) (k : ℕ) → (when (not b) k ≡ None) ↔ (b ≡ true)
 true_iff b k = (when_not b k, λ e. ap (λ c. when (not c) k) e)
 
-bare_none : (mode : SynthesisMode) (o : Option Told) → unless_bare mode o ≡ None → KeepsMatrices mode → o ≡ None
+pub bare_none : (mode : SynthesisMode) (o : Option Told) → unless_bare mode o ≡ None → KeepsMatrices mode → o ≡ None
 bare_none Setup o e k = e
 bare_none (Prove true) o e k = e
 bare_none (Prove false) o e k = absurd k
@@ -47,8 +47,13 @@ none_bare Setup o h = h tt
 none_bare (Prove true) o h = h tt
 none_bare (Prove false) o h = refl
 
+-- places for values, where they are kept
+pub for_values : (mode : SynthesisMode) (count len : ℕ) → count ≤ value_places mode len → KeepsValues mode → count ≤ capacity len
+for_values Setup count len h k = absurd k
+for_values (Prove matrices) count len h k = h
+
 -- a test of one number
-within : (due places : ℕ) → (not (lacks due places) ≡ true) ↔ (due ≤ places)
+pub within : (due places : ℕ) → (not (lacks due places) ≡ true) ↔ (due ≤ places)
 within due places = (λ e. ltb-false places due (not-true (lacks due places) e), λ h. not_from_false (lacks due places) (le-ltb places due h))
 
 module _ {V : Type 0} where
@@ -64,7 +69,7 @@ module _ {V : Type 0} where
   value_iff (Prove matrices) (Ok v) = (λ _. tt, λ _. refl)
   value_iff (Prove matrices) (Err e) = (λ h. absurd (some_none _ _ refl h), λ h. absurd h)
 
-  check_iff : (mode : SynthesisMode) (x : Account V) → (check_refusal mode x ≡ None) ↔ Checkable mode x
+  pub check_iff : (mode : SynthesisMode) (x : Account V) → (check_refusal mode x ≡ None) ↔ Checkable mode x
   check_iff Setup x = (λ h. absurd (some_none _ _ refl h), λ h. absurd h)
   check_iff (Prove true) x = (λ _. tt, λ _. refl)
   check_iff (Prove false) x =
@@ -76,12 +81,12 @@ module _ {V : Type 0} where
   work_iff (Some done) work x = (λ _ e. absurd (some_none done _ refl e), λ _. refl)
 
   -- counts that fit, by mode
-  record Values (mode : SynthesisMode) (k : Lengths) (x : Account V) : Type 0 where
-    first : (KeepsValues mode → ⊥) → 1 ≤ capacity k.instances
-    instances : KeepsValues mode → x.instances.count ≤ capacity k.instances
-    witnesses : KeepsValues mode → x.witnesses.count + added_count x.finished ≤ capacity k.witnesses
+  pub record Values (mode : SynthesisMode) (k : Lengths) (x : Account V) : Type 0 where
+    pub first : (KeepsValues mode → ⊥) → 1 ≤ capacity k.instances
+    pub instances : KeepsValues mode → x.instances.count ≤ capacity k.instances
+    pub witnesses : KeepsValues mode → x.witnesses.count + added_count x.finished ≤ capacity k.witnesses
 
-  values_iff : (mode : SynthesisMode) (k : Lengths) (x : Account V) → (values_fit mode k x ≡ true) ↔ Values mode k x
+  pub values_iff : (mode : SynthesisMode) (k : Lengths) (x : Account V) → (values_fit mode k x ≡ true) ↔ Values mode k x
   values_iff Setup k x = (
     λ e. record { first = λ _. (within 1 _).0 e; instances = λ v. absurd v; witnesses = λ v. absurd v },
     λ h. (within 1 _).1 (h.first (λ v. v)),
@@ -111,7 +116,7 @@ module _ {V : Type 0} where
         (and_from _ _ ((within _ _).1 h.entries) ((values_iff x.mode k x).1 (record { first = h.first; instances = h.instances; witnesses = h.witnesses }))),
   )
 
-  unsound_iff : (k : Lengths) (x : Account V) → (unsound k x ≡ None) ↔ Fits k x
+  pub unsound_iff : (k : Lengths) (x : Account V) → (unsound k x ≡ None) ↔ Fits k x
   unsound_iff k x = (λ e. (fits_iff k x).0 ((true_iff (fits k x) 17).0 e), λ h. (true_iff (fits k x) 17).1 ((fits_iff k x).1 h))
 
   -- a question for a symbol

@@ -7,18 +7,18 @@ use Rattle.field.specs.Laws.{Model}
 use Rattle.variables.specs.declared.Variable.{Variable}
 use Rattle.variables.specs.declared.Variable.TheVariants.{Zero, One, Instance, Witness, SymbolicLc}
 use Rattle.variables.specs.declared.Term.{Term}
-use Rattle.variables.specs.Refusals.{Told}
+use Rattle.variables.specs.Refusals.{Told, error_number, number_alone, number_at}
 use Rattle.account.specs.declared.SynthesisMode.{SynthesisMode}
 use Rattle.account.specs.declared.SynthesisMode.TheVariants.{Setup, Prove}
-use Rattle.account.specs.declared.SynthesisError.{SynthesisError}
+use Rattle.variables.specs.declared.SynthesisError.{SynthesisError}
 use Rattle.account.specs.Given.{Given, marks, lists}
 use Rattle.account.specs.Finish.{Stage, places, lacks}
 use Rattle.account.specs.Rows.{Matrices}
 use Rattle.account.specs.Account.{Finished, Account, KeepsMatrices, KeepsValues, fresh, KnownAt, rule_of, matrices_of}
 use Rattle.account.specs.Calls.{Call, set_mode, set_optimization_goal, new_input_variable, new_witness_variable, new_lc, enforce_constraint, which_is_unsatisfied, assigned_value, finalize, to_matrices}
-use Rattle.account.specs.Refusals.{Lengths, when, first, error_number, unless_bare, if_known, variable_refusal, value_refusal, list_refusal, used_entries, fits, unsound, check_refusal, work_refusal, question_refusal, writing_refusal, room_of, start_of, stages_of, tests}
+use Rattle.account.specs.Refusals.{Lengths, when, first, unless_bare, if_known, variable_refusal, value_refusal, list_refusal, used_entries, fits, unsound, check_refusal, work_refusal, question_refusal, writing_refusal, room_of, start_of, stages_of, tests}
 use Rattle.account.specs.Conditions.{Fresh, Fits}
-use Rattle.account.specs.Causes.{number_alone, number_at, UnknownBy, names_own, names_no_own, FirstUnknown, Cause, mode_set_late, goal_set_late, no_instance_place, no_witness_place, instance_error, witness_error, no_entry_for_list, no_places_for_list, no_entries_for_constraint, no_places_for_constraint, unknown_in_list, unknown_in_a, unknown_in_b, unknown_in_c, no_constraint_more, check_unfit, question_unfit, finalize_unfit, writing_unfit, check_in_setup, check_in_bare_mode, check_short_of_work, question_short_of_work, short_of_cells, short_of_ends, finalize_stops, RefusedForCause}
+use Rattle.account.specs.Causes.{UnknownBy, names_own, names_no_own, FirstUnknown, Cause, mode_set_late, goal_set_late, no_instance_place, no_witness_place, instance_error, witness_error, no_entry_for_list, no_places_for_list, no_entries_for_constraint, no_places_for_constraint, unknown_in_list, unknown_in_a, unknown_in_b, unknown_in_c, no_constraint_more, check_unfit, question_unfit, finalize_unfit, writing_unfit, check_in_setup, check_in_bare_mode, check_short_of_work, question_short_of_work, short_of_cells, short_of_ends, finalize_stops, RefusedForCause}
 use Rattle.account.proofs.Refuses.{some_none, some_is, when_not, variables_refused, lists_refused}
 use Rattle.account.proofs.Places.{places_refused}
 use Rattle.account.proofs.Stops.{places_lacking}

@@ -5,19 +5,19 @@ use Rattle.field.specs.Laws.{Model}
 use Rattle.variables.specs.declared.Variable.{Variable}
 use Rattle.variables.specs.declared.Variable.TheVariants.{SymbolicLc}
 use Rattle.variables.specs.declared.Term.{Term}
-use Rattle.variables.specs.Refusals.{Told}
+use Rattle.variables.specs.Refusals.{Told, error_number, number_alone}
 use Rattle.account.specs.declared.SynthesisMode.{SynthesisMode}
 use Rattle.account.specs.declared.SynthesisMode.TheVariants.{Setup, Prove}
-use Rattle.account.specs.declared.SynthesisError.{SynthesisError}
-use Rattle.account.specs.declared.SynthesisError.TheVariants.{MissingCS, AssignmentMissing, DivisionByZero, Unsatisfiable, PolynomialDegreeTooLarge, UnexpectedIdentity, MalformedVerifyingKey, UnconstrainedVariable}
+use Rattle.variables.specs.declared.SynthesisError.{SynthesisError}
+use Rattle.variables.specs.declared.SynthesisError.TheVariants.{MissingCS, AssignmentMissing, DivisionByZero, Unsatisfiable, PolynomialDegreeTooLarge, UnexpectedIdentity, MalformedVerifyingKey, UnconstrainedVariable}
 use Rattle.account.specs.Given.{marks, lists, KnownVariable}
 use Rattle.account.specs.Finish.{Rule, Room, Start, Finishing, places}
 use Rattle.account.specs.Account.{Account, KeepsMatrices, KeepsValues, HasValue, Checkable, KnownAt, rule_of}
 use Rattle.account.specs.Calls.{Call, set_mode, set_optimization_goal, new_input_variable, new_witness_variable, new_lc, enforce_constraint, which_is_unsatisfied, assigned_value, finalize, to_matrices}
-use Rattle.account.specs.Refusals.{Lengths, error_number, room_of, start_of, refusal}
+use Rattle.account.specs.Refusals.{Lengths, room_of, start_of, refusal}
 use Rattle.account.specs.Laws.{FindsPlaces, Lacks, written_out, two_terms, a_witness, three_entries, StopsAt}
 use Rattle.account.specs.Conditions.{Fits, Conditions}
-use Rattle.account.specs.Causes.{number_alone, UnknownBy, names_own, names_no_own, FirstUnknown, Cause, mode_set_late, goal_set_late, no_instance_place, no_witness_place, instance_error, witness_error, no_entry_for_list, no_places_for_list, no_entries_for_constraint, no_places_for_constraint, unknown_in_list, unknown_in_a, unknown_in_b, unknown_in_c, no_constraint_more, check_unfit, question_unfit, finalize_unfit, writing_unfit, check_in_setup, check_in_bare_mode, check_short_of_work, question_short_of_work, short_of_cells, short_of_ends, finalize_stops, CausesRefuse}
+use Rattle.account.specs.Causes.{UnknownBy, names_own, names_no_own, FirstUnknown, Cause, mode_set_late, goal_set_late, no_instance_place, no_witness_place, instance_error, witness_error, no_entry_for_list, no_places_for_list, no_entries_for_constraint, no_places_for_constraint, unknown_in_list, unknown_in_a, unknown_in_b, unknown_in_c, no_constraint_more, check_unfit, question_unfit, finalize_unfit, writing_unfit, check_in_setup, check_in_bare_mode, check_short_of_work, question_short_of_work, short_of_cells, short_of_ends, finalize_stops, CausesRefuse}
 use Rattle.account.proofs.Refuses.{some_none, some_is}
 use Rattle.account.proofs.Places.{err_ok}
 use Rattle.account.proofs.Suffices.{places_suffice}

@@ -1,5 +1,5 @@
 -- Where a value is found, and what it stands for, whichever values are kept. Assumes nothing.
-use Rattle.std.proofs.Common.{◌≡◌, ℕ, suc, ◌+◌, ◌<◌, ◌≤◌, List, [], ◌∷◌, ◌++◌, length, get_or, take, Some, None, Option, sym, refl, ap, ◌∙◌, zero-add as nat_zero_add, arith, length-take}
+use Rattle.std.proofs.Common.{◌≡◌, ℕ, suc, ◌+◌, ◌<◌, ◌≤◌, List, [], ◌∷◌, ◌++◌, length, get_or, take, Some, None, Option, sym, refl, ap, ◌∙◌, subst, zero-add as nat_zero_add, arith, length-take}
 use lib.ListN.{length-map}
 use Rattle.std.specs.List.{AllByRecursion, Contains, slice_get}
 use Rattle.std.proofs.lemmas.List.{get_or_append_left, get_or_push, length_push}
@@ -47,6 +47,15 @@ slice_there (x ∷ xs) (suc i) h = omega (arith, slice_there xs i h)
 all_from : {X : Type 0} (P Q : X → Type 0) (xs : List X) → AllByRecursion P xs → ((x : X) → Contains xs x → P x → Q x) → AllByRecursion Q xs
 all_from P Q xs h f = recursion_from_All Q xs (λ k d lt. f (get_or xs k d) (Contains-get_or xs k d lt) (All-from_recursion P xs h k d lt))
 
+-- a symbol that stands for one of so many lists; the other variables stand for none
+abbrev InLists : ℕ → Variable → Type 0
+InLists count (SymbolicLc k) = k.0 < count
+InLists count other = Unit {0}
+
+known_in : (n w : ℕ) (before : List Mark) (v : Variable) → KnownVariable n w before v → InLists (length before) v
+known_in n w before (SymbolicLc k) h = h.0
+known_in n w before other h = tt
+
 module _ {V : Type 0} (m : Model V) where
   -- a list has a value exactly where all its variables do
   from_there : (at : Variable → Option V) (ts : List (Term V)) (o : Option V) → There (evaluated_from m at o ts) → There o × AllByRecursion (λ t. There (at t.variable)) ts
@@ -93,7 +102,7 @@ module _ {V : Type 0} (m : Model V) where
         let x = worked named l in
         filled_kept (named ++ x ∷ []) ls k (omega (arith, length_push named x)) ∙ get_or_append_left named (x ∷ []) None k h
 
-    filled_long : (named : List (Option V)) (ls : List (List (Term V))) → length (after named ls) ≡ length named + length ls
+    pub filled_long : (named : List (Option V)) (ls : List (List (Term V))) → length (after named ls) ≡ length named + length ls
     filled_long named [] = omega arith
     filled_long named (l ∷ ls) = let x = worked named l in filled_long (named ++ x ∷ []) ls ∙ omega (arith, length_push named x)
 
@@ -152,24 +161,24 @@ module _ {V : Type 0} (m : Model V) where
       rests (itself {v}) h = own v h
       rests (through {k} {t} c r) h = rests r (All-contains (λ t. There (at t.variable)) (get_or all k.0 []) t (All-from_recursion _ (get_or all k.0 []) (terms_there k.0 h)) c)
 
-      -- .. and the other way around, for what is known after few lists
+      -- .. and the other way around, for what stands for few lists
       module _ (Good : Variable → Type 0) (zero_good : Good Zero) (one_good : Good One) (instance_good : (i : ℕ) → i < length instances → Good (Instance i))
           (witness_good : (i : ℕ) → i < length witnesses → Good (Witness i))
           (symbol_good : (k : LcIndex) → k.0 < length given → AllByRecursion (λ t. Good t.variable) (get_or all k.0 []) → Good (SymbolicLc k)) where
-        good : (d : ℕ) (before : List Mark) → length before ≤ d → length before ≤ length given → (v : Variable) → KnownVariable n w before v
+        good : (d count : ℕ) → count ≤ d → count ≤ length given → (v : Variable) → InLists count v
             → ((u : Variable) → RestsOn all v u → IsKept (length instances) (length witnesses) u) → Good v
-        good d before le in' Zero k h = zero_good
-        good d before le in' One k h = one_good
-        good d before le in' (Instance i) k h = instance_good i (h (Instance i) itself)
-        good d before le in' (Witness i) k h = witness_good i (h (Witness i) itself)
-        good ℕ.zero before le in' (SymbolicLc j) k h = absurd (omega (arith, k.0))
-        good (suc d) before le in' (SymbolicLc j) k h =
-            let lt : j.0 < length given = omega (arith, k.0) in
+        good d count le in' Zero k h = zero_good
+        good d count le in' One k h = one_good
+        good d count le in' (Instance i) k h = instance_good i (h (Instance i) itself)
+        good d count le in' (Witness i) k h = witness_good i (h (Witness i) itself)
+        good ℕ.zero count le in' (SymbolicLc j) k h = absurd (omega (arith, k))
+        good (suc d) count le in' (SymbolicLc j) k h =
+            let lt : j.0 < length given = omega (arith, k) in
             let early = take j.0 (marks given) in
             let size : length early ≤ j.0 = omega (arith, length-take j.0 (marks given)) in
             symbol_good j lt
             (all_from (λ t. KnownVariable n w early t.variable) (λ t. Good t.variable) (get_or all j.0 []) (known_list n w [] given known j.0 lt)
-            (λ t c kn. good d early (omega (arith, k.0)) (omega arith) t.variable kn (λ u r. h u (through c r))))
+            (λ t c kn. good d (length early) (omega (arith, k)) (omega arith) t.variable (known_in n w early t.variable kn) (λ u r. h u (through c r))))
 
 module _ {V : Type 0} {m : Model V} (keeps : Keeps m) where
   open m.ring use {Member, zero}
@@ -178,25 +187,22 @@ module _ {V : Type 0} {m : Model V} (keeps : Keeps m) where
     abbrev reads : Variable → Option V
     reads = read m instances witnesses (filled m instances witnesses (lists given))
 
-    long : length (marks given) ≡ length given
-    long = length-map given (λ (g : Given V). g.mark)
-
     -- what can be worked out has a value
-    has_value : (v : Variable) → KnownVariable n w (marks given) v → AllKept (length instances) (length witnesses) (lists given) v → There (reads v)
+    has_value : (v : Variable) → InLists (length given) v → AllKept (length instances) (length witnesses) (lists given) v → There (reads v)
     has_value v k h =
         good m instances witnesses n w given known (λ u. There (reads u)) (m.zero, refl) (m.one, refl)
         (λ i lt. (get_or instances i m.zero, slice_get-get_or instances i m.zero lt)) (λ i lt. (get_or witnesses i m.zero, slice_get-get_or witnesses i m.zero lt))
         (λ j lt all.
         let got = there_from m reads (get_or (lists given) j.0 []) m.zero all in
         (got.0, solved m instances witnesses n w given known j.0 lt ∙ got.1))
-        (length given) (marks given) (omega (arith, long)) (omega (arith, long)) v k h
+        (length given) (length given) (omega arith) (omega arith) v k h
 
     -- .. which stands for its worth
     module _ (z : List Member) (has : HasKept m n instances witnesses z) where
       abbrev meant : Variable → Member
       meant = value m n z (worths m n z (lists given))
 
-      value_stands : (v : Variable) → KnownVariable n w (marks given) v → AllKept (length instances) (length witnesses) (lists given) v → Means m (reads v) (meant v)
+      value_stands : (v : Variable) → InLists (length given) v → AllKept (length instances) (length witnesses) (lists given) v → Means m (reads v) (meant v)
       value_stands v k h =
           good m instances witnesses n w given known (λ u. Means m (reads u) (meant u)) (m.zero, refl, keeps.zero_stands) (m.one, refl, keeps.one_stands)
           (λ i lt. (get_or instances i m.zero, slice_get-get_or instances i m.zero lt, sym (has.of_instances i lt)))
@@ -208,9 +214,9 @@ module _ {V : Type 0} {m : Model V} (keeps : Keeps m) where
             solved m instances witnesses n w given known j.0 lt ∙ got.1,
             got.2 ∙ sym ((worths_solve keeps n w z given known).symbols j.0 (omega (arith, many))),
           ))
-          (length given) (marks given) (omega (arith, long)) (omega (arith, long)) v k h
+          (length given) (length given) (omega arith) (omega arith) v k h
 
-    found : (v : Variable) → KnownVariable n w (marks given) v → Found m n instances witnesses (AllKept (length instances) (length witnesses) (lists given) v) (λ z. value m n z (worths m n z (lists given)) v) (reads v)
+    found : (v : Variable) → InLists (length given) v → Found m n instances witnesses (AllKept (length instances) (length witnesses) (lists given) v) (λ z. value m n z (worths m n z (lists given)) v) (reads v)
     found v k = record {
       there = (λ h u r. rests m instances witnesses n w given known r h, λ h. has_value v k h);
       stands = λ z has a e.
@@ -219,4 +225,11 @@ module _ {V : Type 0} {m : Model V} (keeps : Keeps m) where
     }
 
   pub values_found : ValuesFound m
-  values_found instances witnesses n w given known v k = found instances witnesses n w given known.terms v k
+  values_found instances witnesses n w given known v k =
+      found instances witnesses n w given known.terms v (subst (λ i. InLists i v) (length-map given (λ (g : Given V). g.mark)) (known_in n w (marks given) v k))
+
+  -- of each list, whatever its mark
+  pub list_found : (instances witnesses : List V) (n w : ℕ) (given : List (Given V)) → KnownAfter n w [] given → (k : ℕ) → k < length given
+      → Found m n instances witnesses (AllKept (length instances) (length witnesses) (lists given) (SymbolicLc (record { 0 = k })))
+      (λ z. get_or (worths m n z (lists given)) k zero) (get_or (filled m instances witnesses (lists given)) k None)
+  list_found instances witnesses n w given known k lt = found instances witnesses n w given known (SymbolicLc (record { 0 = k })) lt

@@ -1,6 +1,5 @@
 -- Tables that fit a circuit fit it after every accepted call. Assumes nothing.
 use Rattle.std.proofs.Common.{◌≡◌, ℕ, ◌+◌, ◌-◌, ◌*◌, ◌≤◌, true, false, List, [], ◌∷◌, ◌++◌, map, length, Some, None, Ok, Err, Option, sym, refl, ap, ◌∙◌, subst, append-nil, arith, length-append}
-use mathlib.Core.List.{map-append}
 use lib.ListN.{length-map}
 use Rattle.std.proofs.lemmas.Bool.{cond_both}
 use Rattle.field.specs.Laws.{Model, Keeps}
@@ -19,8 +18,8 @@ use Rattle.account.specs.Conditions.{Conditions, Fits}
 use Rattle.account.specs.Run.{by_refusal, due, log_from, log_of, Run}
 use Rattle.account.specs.Promise.{TablesFit}
 use Rattle.account.proofs.Refuses.{enough}
-use Rattle.account.proofs.Accepts.{fits_iff, conditions}
-use Rattle.account.proofs.Places.{places_append, places_taken}
+use Rattle.account.proofs.Accepts.{for_values, fits_iff, conditions}
+use Rattle.account.proofs.Places.{given_places, places_taken}
 use Rattle.account.proofs.Suffices.{places_suffice}
 use Rattle.account.proofs.Values.{open_means}
 use Rattle.account.proofs.Causes.{refused_for_cause}
@@ -28,15 +27,7 @@ use Rattle.account.proofs.CausesRefuse.{told_other}
 use Rattle.account.proofs.Runs.{run_past, any_refusals}
 use Rattle.account.proofs.Calls.{calls_run, log_due}
 
--- places for values, where they are kept
-for_values : (mode : SynthesisMode) (count len : ℕ) → count ≤ value_places mode len → KeepsValues mode → count ≤ capacity len
-for_values Setup count len h k = absurd k
-for_values (Prove matrices) count len h k = h
-
 module _ {V : Type 0} where
-  given_places : (given more : List (Given V)) → places (lists (given ++ more)) ≡ places (lists given) + places (lists more)
-  given_places given more = ap places (map-append (λ (g : Given V). g.terms) given more) ∙ places_append (lists given) (lists more)
-
   -- what a run keeps: the counts fit, and there is a place for the first instance
   record Fit (k : Lengths) (x : Account V) : Type 0 where
     terms_fit : used_terms x ≤ capacity k.terms

@@ -1,5 +1,6 @@
 -- The places that finalising takes. Assumes nothing.
 use Rattle.std.proofs.Common.{◌≡◌, ℕ, suc, ◌+◌, ◌*◌, ◌<◌, ◌≤◌, Bool, true, false, ◌⊎◌, List, [], ◌∷◌, ◌++◌, map, length, Ok, Err, Result, sym, refl, ap, ◌∙◌, subst, inl, inr, ⊎_elim, arith}
+use mathlib.Core.List.{map-append}
 use Rattle.std.proofs.lemmas.List.{length_push}
 use Rattle.std.proofs.lemmas.Bool.{cases_Bool, cond_both, cond-true, cond-false, ltb-false}
 use Rattle.field.specs.Laws.{Model}
@@ -8,6 +9,7 @@ use Rattle.variables.specs.declared.Term.{Term}
 use Rattle.variables.specs.Order.{equal, below}
 use Rattle.variables.specs.Refusals.{Told}
 use Rattle.variables.specs.Compact.{placed, all_placed}
+use Rattle.account.specs.Given.{Given, lists}
 use Rattle.account.specs.Finish.{Rule, Outlined, Finishing, Room, Start, Stage, untaken, places, lacks, unless, and_then, expanded, inlined, single, taken, finish_after, finish, settled, step, finish_within}
 use Rattle.account.specs.Rows.{row_lists, added_row}
 use Rattle.account.specs.Laws.{PlacesTaken, PlacesRefused}
@@ -36,6 +38,9 @@ and_then_ok (Err f) next y e = absurd (err_ok f y e)
 pub places_append : {X : Type 0} (xs ys : List (List X)) → places (xs ++ ys) ≡ places xs + places ys
 places_append [] ys = omega arith
 places_append (x ∷ xs) ys = omega (arith, places_append xs ys)
+
+pub given_places : {V : Type 0} (given more : List (Given V)) → places (lists (given ++ more)) ≡ places (lists given) + places (lists more)
+given_places {V} given more = ap places (map-append (λ (g : Given V). g.terms) given more) ∙ places_append (lists given) (lists more)
 
 module _ {V : Type 0} (m : Model V) where
   -- merging takes no more places

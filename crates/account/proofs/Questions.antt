@@ -12,7 +12,7 @@ use Rattle.account.specs.declared.Mark.{Mark}
 use Rattle.account.specs.declared.Mark.TheVariants.{Plain, A, B, C}
 use Rattle.account.specs.declared.SynthesisMode.{SynthesisMode}
 use Rattle.account.specs.declared.SynthesisMode.TheVariants.{Setup, Prove}
-use Rattle.account.specs.Given.{marks, lists, KnownVariable}
+use Rattle.account.specs.Given.{marks, lists, KnownVariable, Known}
 use Rattle.account.specs.Worths.{worths}
 use Rattle.account.specs.Rests.{AllKept, HasKept, Found}
 use Rattle.account.specs.Rows.{Row}
@@ -22,23 +22,24 @@ use Rattle.account.proofs.Finds.{There, none_there, some_is, slice_there, values
 use Rattle.account.proofs.Sounds.{Keeping}
 use Rattle.account.proofs.Values.{value_read}
 
-module _ {V : Type 0} {m : Model V} (keeps : Keeps m) (cs : List (Row (List (Term V)))) (x : Account V) (s : Keeping m cs x) where
+-- of what a run keeps: no more values than variables are named
+pub few_kept : {V : Type 0} (m : Model V) (cs : List (Row (List (Term V)))) (x : Account V) → Keeping m cs x → (mode : SynthesisMode) → x.mode ≡ mode
+    → (length x.instances.kept ≤ x.instances.count) × (length x.witnesses.kept ≤ x.witnesses.count)
+few_kept m cs x s Setup e =
+    let alone = s.in_setup (λ k. subst KeepsValues e k) in
+    (omega (arith, ap length alone.0, s.some_instance), omega (arith, ap length alone.1))
+few_kept m cs x s (Prove matrices) e =
+    let k = subst KeepsValues (sym e) tt in
+    (omega (arith, s.instances_kept k), omega (arith, s.witnesses_kept k))
+
+module _ {V : Type 0} {m : Model V} (keeps : Keeps m) (x : Account V) where
   open m.ring use {Member, zero}
 
   abbrev n : ℕ
   n = x.instances.count
 
-  abbrev Known : Variable → Type 0
-  Known v = KnownVariable n x.witnesses.count (marks x.given) v
-
-  -- no more values are kept than variables are named
-  below : (mode : SynthesisMode) → x.mode ≡ mode → (length x.instances.kept ≤ n) × (length x.witnesses.kept ≤ x.witnesses.count)
-  below Setup e =
-      let alone = s.in_setup (λ k. subst KeepsValues e k) in
-      (omega (arith, ap length alone.0, s.some_instance), omega (arith, ap length alone.1))
-  below (Prove matrices) e =
-      let k = subst KeepsValues (sym e) tt in
-      (omega (arith, s.instances_kept k), omega (arith, s.witnesses_kept k))
+  abbrev KnownHere : Variable → Type 0
+  KnownHere v = KnownVariable n x.witnesses.count (marks x.given) v
 
   plain_there : (o : Option Mark) (worth : Option V) → There (if_plain m o worth) → o ≡ Some Plain
   plain_there None worth h = absurd (none_there h)
@@ -47,32 +48,33 @@ module _ {V : Type 0} {m : Model V} (keeps : Keeps m) (cs : List (Row (List (Ter
   plain_there (Some B) worth h = absurd (none_there h)
   plain_there (Some C) worth h = absurd (none_there h)
 
-  -- of an open circuit only what is known has a value
-  module _ (unfinished : x.finished ≡ None) where
-    known_there : (v : Variable) → There (value_of m x v) → Known v
+  -- of an open circuit whose lists are known, and which keeps no more values than variables are named, only what is known has a value
+  module _ (unfinished : x.finished ≡ None) (known : Known n x.witnesses.count x.given)
+      (few : (length x.instances.kept ≤ n) × (length x.witnesses.kept ≤ x.witnesses.count)) where
+    known_there : (v : Variable) → There (value_of m x v) → KnownHere v
     known_there Zero h = tt
     known_there One h = tt
-    known_there (Instance i) h = omega (arith, slice_there x.instances.kept i h, (below x.mode refl).0)
+    known_there (Instance i) h = omega (arith, slice_there x.instances.kept i h, few.0)
     known_there (Witness i) h =
         let here = slice_there (x.witnesses.kept ++ added_kept x.finished) i h in
         let same : x.witnesses.kept ++ added_kept x.finished ≡ x.witnesses.kept = ap (λ o. x.witnesses.kept ++ added_kept o) unfinished ∙ append-nil x.witnesses.kept in
-        omega (arith, here, ap length same, (below x.mode refl).1)
+        omega (arith, here, ap length same, few.1)
     known_there (SymbolicLc j) h =
         let table = filled m x.instances.kept x.witnesses.kept (lists x.given) in
         let is = plain_there (slice_get (marks x.given) j.0) (get_or table j.0 None) (h.0, sym (ap (λ o. symbol_value m o x j.0) unfinished) ∙ h.1) in
         let lt = slice_there (marks x.given) j.0 (Plain, is) in
         (lt, some_is _ _ (sym (slice_get-get_or (marks x.given) j.0 A lt) ∙ is))
 
-    pub open_found : (v : Variable) → Found m n x.instances.kept x.witnesses.kept (Known v × AllKept (length x.instances.kept) (length x.witnesses.kept) (lists x.given) v)
+    pub open_found : (v : Variable) → Found m n x.instances.kept x.witnesses.kept (KnownHere v × AllKept (length x.instances.kept) (length x.witnesses.kept) (lists x.given) v)
         (λ z. value m n z (worths m n z (lists x.given)) v) (value_of m x v)
     open_found v =
-        let found = values_found keeps x.instances.kept x.witnesses.kept n x.witnesses.count x.given s.known v in
+        let found = values_found keeps x.instances.kept x.witnesses.kept n x.witnesses.count x.given known v in
         record {
           there = (
-            λ h. let known = known_there v h in (known, (found known).there.0 (h.0, sym (value_read m x unfinished v known) ∙ h.1)),
+            λ h. let here = known_there v h in (here, (found here).there.0 (h.0, sym (value_read m x unfinished v here) ∙ h.1)),
             λ h. let got = (found h.0).there.1 h.1 in (got.0, value_read m x unfinished v h.0 ∙ got.1),
           );
-          stands = λ z has a e. let known = known_there v (a, e) in (found known).stands z has a (sym (value_read m x unfinished v known) ∙ e);
+          stands = λ z has a e. let here = known_there v (a, e) in (found here).stands z has a (sym (value_read m x unfinished v here) ∙ e);
         }
 
   -- of a finished one what is kept has one, and no symbol

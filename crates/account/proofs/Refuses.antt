@@ -40,7 +40,7 @@ first_none [] e = tt
 first_none (None ∷ os) e = (refl, first_none os e)
 first_none (Some r ∷ os) e = absurd (some_none r _ refl e)
 
-first_alone : (o : Option Told) → first (o ∷ []) ≡ o
+pub first_alone : (o : Option Told) → first (o ∷ []) ≡ o
 first_alone None = refl
 first_alone (Some r) = refl
 

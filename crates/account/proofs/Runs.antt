@@ -10,7 +10,7 @@ use Rattle.variables.specs.declared.Term.{Term}
 use Rattle.variables.specs.Refusals.{Told}
 use Rattle.account.specs.declared.SynthesisMode.{SynthesisMode}
 use Rattle.account.specs.declared.SynthesisMode.TheVariants.{Setup, Prove}
-use Rattle.account.specs.declared.SynthesisError.{SynthesisError}
+use Rattle.variables.specs.declared.SynthesisError.{SynthesisError}
 use Rattle.account.specs.declared.Mark.TheVariants.{Plain}
 use Rattle.account.specs.Given.{lists, marked}
 use Rattle.account.specs.Rows.{Row, each, constraints, FirstFailing, Holds, constraints_at, cells, Marlin, Matrices}
@@ -25,8 +25,8 @@ use Rattle.account.proofs.Sounds.{Keeping}
 use Rattle.account.proofs.Contents.{totals, Brought, opened_brought, event_brought, log_brought, kept_so}
 use Rattle.account.proofs.Extends.{slice_get_there, Extends, run_extends}
 use Rattle.account.proofs.SoundLists.{account_sound}
-use Rattle.account.proofs.Values.{finished_means, closed, left_alone, Right, opened_right, right_changed, value_means, check_keeps, check_right, check_marlin}
-use Rattle.account.proofs.Questions.{open_found, finished_found}
+use Rattle.account.proofs.Values.{finished_means, closed, left_alone, valued_in_run, Right, opened_right, right_changed, value_means, check_keeps, check_right, check_marlin}
+use Rattle.account.proofs.Questions.{few_kept, open_found, finished_found}
 
 abbrev Constraints : Type 0 → Type 0
 Constraints V = List (Row (List (Term V)))
@@ -62,7 +62,7 @@ module _ {V : Type 0} where
     run_future [] future e x run = run.1
     run_future (a ∷ past) future e x run = run_future past future e (after m x a) run.1
 
-    after_append : (past rest : List (Event V)) (x : Account V) → after_all m x (past ++ rest) ≡ after_all m (after_all m x past) rest
+    pub after_append : (past rest : List (Event V)) (x : Account V) → after_all m x (past ++ rest) ≡ after_all m (after_all m x past) rest
     after_append [] rest x = refl
     after_append (e ∷ past) rest x = after_append past rest (after m x e)
 
@@ -110,7 +110,7 @@ module _ {V : Type 0} where
 
       -- .. by the lists of the account
       listed_check : Keeping m (accepted_constraints past) x → Right keeps x → Checkable x.mode x → FirstFailing (Holds m) (constraints_kept m x (constraints x.given)) (failing_of m x.mode x)
-      listed_check s r ok = check_right keeps (accepted_constraints past) x s r x.mode refl ok
+      listed_check s r ok = check_right keeps x (valued_in_run m (accepted_constraints past) x s) r x.mode refl ok
 
       -- what the answer to each call says
       said_check : Keeping m (accepted_constraints past) x → Right keeps x → Checkable x.mode x → Checks m past (unsatisfied (failing_of m x.mode x))
@@ -118,16 +118,16 @@ module _ {V : Type 0} where
         answer = failing_of m x.mode x;
         is = refl;
         fails_first = subst (λ cs. FirstFailing (Holds m) (constraints_kept m x cs) (failing_of m x.mode x)) (all_listed (accepted_constraints past) x s x.mode refl ok) (listed_check s r ok);
-        by_matrices = λ k done e. check_marlin keeps (accepted_constraints past) x s r x.mode refl ok k done e;
+        by_matrices = λ k done e. check_marlin keeps x (valued_in_run m (accepted_constraints past) x s) r x.mode refl ok k done e;
       }
 
       said_question : (v : Variable) → Keeping m (accepted_constraints past) x → Questions m past v (assigned (value_of m x v))
       said_question v s = record {
         answer = value_of m x v;
         is = refl;
-        while_open = λ o. open_found keeps (accepted_constraints past) x s o v;
-        while_kept = λ o k known. value_means keeps (accepted_constraints past) x s k o v known;
-        when_finished = λ done e. finished_found keeps (accepted_constraints past) x s done e v;
+        while_open = λ o. open_found keeps x o s.known (few_kept m (accepted_constraints past) x s x.mode refl) v;
+        while_kept = λ o k known. value_means keeps x (valued_in_run m (accepted_constraints past) x s) k o v known;
+        when_finished = λ done e. finished_found keeps x done e v;
       }
 
       -- what is written, by mode

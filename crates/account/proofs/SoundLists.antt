@@ -5,6 +5,7 @@ use mathlib.Core.List.{map-append}
 use lib.ListN.{length-map}
 use Rattle.std.specs.List.{AllByRecursion, zip}
 use Rattle.std.proofs.lemmas.List.{length-drop}
+use Rattle.std.proofs.lemmas.Option.{none-some}
 use Rattle.std.proofs.ByRecursion.{All-drop, All-weaker}
 use Rattle.field.specs.Laws.{Model, Keeps}
 use Rattle.variables.specs.declared.Variable.{Variable}
@@ -24,11 +25,15 @@ use Rattle.account.proofs.Counts.{Only}
 use Rattle.account.proofs.Sounds.{Keeping, known_append, known_wider}
 use Rattle.account.proofs.Values.{Right}
 
--- where there is no constraint all marks are plain
-plain_alone : {ms : List Mark} (k : ℕ) → Triples ms → length (starts_from k ms) ≡ 0 → AllByRecursion (λ mark. mark ≡ Plain) ms
+-- where no triple starts all marks are plain
+pub plain_alone : {ms : List Mark} (k : ℕ) → Triples ms → length (starts_from k ms) ≡ 0 → AllByRecursion (λ mark. mark ≡ Plain) ms
 plain_alone k none e = tt
 plain_alone k (plain t) e = (refl, plain_alone (suc k) t e)
 plain_alone k (triple t) e = absurd (omega arith)
+
+no_start : (k : ℕ) (ms : List Mark) → AllByRecursion (λ mark. mark ≡ Plain) ms → starts_from k ms ≡ []
+no_start k [] h = refl
+no_start k (mark ∷ ms) h = subst (λ first. starts_from k (first ∷ ms) ≡ []) (sym h.0) (no_start (suc k) ms h.1)
 
 starts_moved : (ms : List Mark) (k j : ℕ) → length (starts_from k ms) ≡ length (starts_from j ms)
 starts_moved [] k j = refl
@@ -80,23 +85,33 @@ module _ {V : Type 0} where
   beside_known n w (mark ∷ ms) (l ∷ ls) before h =
       (All-weaker _ _ (λ t f. free_known n w before t.variable f) l h.0, beside_known n w ms ls (before ++ mark ∷ []) h.1)
 
-  counted : (given : List (Given V)) → length (constraints given) ≡ length (starts_from 0 (marks given))
-  counted given = length-map (starts_from 0 (marks given)) (row_at [] (lists given))
+  -- a constraint for each triple, and none exactly where all marks are plain
+  pub many_constraints : (given : List (Given V)) → length (constraints given) ≡ length (starts_from 0 (marks given))
+  many_constraints given = length-map (starts_from 0 (marks given)) (row_at [] (lists given))
+
+  pub plain_where_none : (given : List (Given V)) → Triples (marks given) → constraints given ≡ [] → AllByRecursion (λ mark. mark ≡ Plain) (marks given)
+  plain_where_none given t e = plain_alone 0 t (sym (many_constraints given) ∙ ap length e)
+
+  pub none_where_plain : (given : List (Given V)) → AllByRecursion (λ mark. mark ≡ Plain) (marks given) → constraints given ≡ []
+  none_where_plain given h = ap (map (row_at [] (lists given))) (no_start 0 (marks given) h)
 
   counted_append : (given more : List (Given V)) → length (constraints (given ++ more)) ≡ length (constraints given) + length (starts_from 0 (marks more))
   counted_append given more =
-      counted (given ++ more) ∙ ap (λ ms. length (starts_from 0 ms)) (map-append (λ (g : Given V). g.mark) given more)
-      ∙ starts_append (marks given) (marks more) 0 0 ∙ ap (λ k. k + length (starts_from 0 (marks more))) (sym (counted given))
+      many_constraints (given ++ more) ∙ ap (λ ms. length (starts_from 0 ms)) (map-append (λ (g : Given V). g.mark) given more)
+      ∙ starts_append (marks given) (marks more) 0 0 ∙ ap (λ k. k + length (starts_from 0 (marks more))) (sym (many_constraints given))
 
-  no_list : (ls : List (List (Term V))) → None ≡ Some ls → ⊥
-  no_list ls e = let z : ◌≡◌ {A = ℕ} 0 1 = cc in omega arith
+  -- where nothing is finished the given lists alone decide
+  pub open_lists : (mode : SynthesisMode) (n w count : ℕ) (given : List (Given V)) → Known n w given → (KeepsMatrices mode → length (constraints given) ≡ count)
+      → ((KeepsMatrices mode → ⊥) → AllByRecursion (λ mark. mark ≡ Plain) (marks given)) → SoundLists mode n w count given None
+  open_lists mode n w count given known triples bare =
+      record { known = known; triples = triples; bare = bare; long = λ k ls e. absurd (none-some ls e); symbol_free = λ k ls e. absurd (none-some ls e) }
 
   some_list : (ls us : List (List (Term V))) → Some ls ≡ Some us → ls ≡ us
   some_list ls us e = cc
 
   module _ {m : Model V} (keeps : Keeps m) (cs : List (Row (List (Term V)))) (x : Account V) (s : Keeping m cs x) where
     bare_plain : (KeepsMatrices x.mode → ⊥) → AllByRecursion (λ mark. mark ≡ Plain) (marks x.given)
-    bare_plain k = plain_alone 0 s.known.triples (sym (counted x.given) ∙ ap length (s.bare k))
+    bare_plain k = plain_where_none x.given s.known.triples (s.bare k)
 
     abbrev SoundAt : Option (Finished V) → Type 0
     SoundAt o = SoundLists x.mode x.instances.count (x.witnesses.count + added_count o) (x.constraints + added_count o) (x.given ++ added_given (length x.given) o) (lists_of o)
@@ -114,7 +129,7 @@ module _ {V : Type 0} where
     }
 
     sound_open : SoundAt None
-    sound_open = alone None _ _ _ (omega arith) (omega arith) (append-nil x.given) (λ k us e. no_list us e)
+    sound_open = alone None _ _ _ (omega arith) (omega arith) (append-nil x.given) (λ k us e. none-some us e)
 
     sound_bare : (KeepsMatrices x.mode → ⊥) → SoundAt (Some nothing_made)
     sound_bare bare = alone (Some []) _ _ _ (omega arith) (omega arith) (append-nil x.given) (λ k. absurd (bare k))

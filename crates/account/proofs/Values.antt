@@ -65,6 +65,16 @@ module _ {V : Type 0} where
       ap (λ o. symbol_value m o x j.0) unfinished
       ∙ ap (λ o. if_plain m o (get_or table j.0 None)) (slice_get-get_or (marks x.given) j.0 A h.0 ∙ ap Some h.1)
 
+  -- The lists of a circuit are known, in bare mode without a constraint, and where values are kept there is one for each variable.
+  pub record Valued (x : Account V) : Type 0 where
+    pub known : Known x.instances.count x.witnesses.count x.given
+    pub bare : (KeepsMatrices x.mode → ⊥) → constraints x.given ≡ []
+    pub instances_kept : KeepsValues x.mode → length x.instances.kept ≡ x.instances.count
+    pub witnesses_kept : KeepsValues x.mode → length x.witnesses.kept ≡ x.witnesses.count
+
+  pub valued_in_run : (m : Model V) (cs : List (Row (List (Term V)))) (x : Account V) → Keeping m cs x → Valued x
+  valued_in_run m cs x s = record { known = s.known; bare = s.bare; instances_kept = s.instances_kept; witnesses_kept = s.witnesses_kept }
+
   module _ {m : Model V} (keeps : Keeps m) where
     open m.ring use {Member, zero, one}
 
@@ -73,7 +83,7 @@ module _ {V : Type 0} where
       pub faithful : KeepsMatrices x.mode → (done : Finished V) → x.finished ≡ Some done → Faithful m x (constraints x.given) done
       pub bare : (KeepsMatrices x.mode → ⊥) → (done : Finished V) → x.finished ≡ Some done → done ≡ nothing_made
 
-    open_right : (x : Account V) → x.finished ≡ None → Right x
+    pub open_right : (x : Account V) → x.finished ≡ None → Right x
     open_right x o = record { faithful = λ k done e. absurd (closed x.finished done o e); bare = λ k done e. absurd (closed x.finished done o e) }
 
     pub opened_right : Right (opened m)
@@ -83,6 +93,10 @@ module _ {V : Type 0} where
     bare_made Setup x h = absurd (h tt)
     bare_made (Prove true) x h = absurd (h tt)
     bare_made (Prove false) x h = refl
+
+    kept_long : (x : Account V) → length x.instances.kept ≡ x.instances.count → length x.witnesses.kept ≡ x.witnesses.count
+        → length (kept_of m x) ≡ x.instances.count + x.witnesses.count
+    kept_long x i j = length-map (x.instances.kept ++ x.witnesses.kept) m.stands ∙ length-append x.instances.kept x.witnesses.kept ∙ ap₂ ◌+◌ i j
 
     module _ (cs : List (Row (List (Term V)))) (x : Account V) (s : Keeping m cs x) where
       abbrev n : ℕ
@@ -98,15 +112,12 @@ module _ {V : Type 0} where
       abbrev ended : Finished V → Account V
       ended done = with_finished x (Some done)
 
-      kept_long : length x.instances.kept ≡ n → length x.witnesses.kept ≡ w → length (kept_of m x) ≡ n + w
-      kept_long i j = length-map (x.instances.kept ++ x.witnesses.kept) m.stands ∙ length-append x.instances.kept x.witnesses.kept ∙ ap₂ ◌+◌ i j
-
       -- where the added values are those of the combinations, Marlin's condition fails first where the constraints do
       kept_marlin : (done : Finished V) → WellFormed n w x.given (constraints x.given) done.lists done.combinations → FailsAlike m n w x.given (constraints x.given) done.lists done.combinations
           → map m.stands done.added ≡ combination_worths m n x.given done.combinations (kept_of m x) → length x.instances.kept ≡ n → length x.witnesses.kept ≡ w → (answer : Option ℕ)
           → FirstFailing (Marlin m (all_kept_of m x done)) (map (each (cells m n)) (rows_of x done)) answer ↔ FirstFailing (Holds m) (constraints_kept m x (constraints x.given)) answer
       kept_marlin done formed alike added i j answer =
-          let long : length (kept_of m x) ≡ n + w = kept_long i j in
+          let long : length (kept_of m x) ≡ n + w = kept_long x i j in
           let more : length (map m.stands done.added) ≡ length done.combinations = ap length added ∙ length-map done.combinations _ in
           let whole : length (all_kept_of m x done) ≡ n + (w + length done.combinations) = omega (arith, long, more, length-append (kept_of m x) (map m.stands done.added)) in
           let first_one : get_or (all_kept_of m x done) 0 zero ≡ one
@@ -186,7 +197,7 @@ module _ {V : Type 0} where
     or_zero_means o a h = ap (λ p. m.stands (or_zero m p)) h.1 ∙ h.2
 
     -- a circuit whose values are kept
-    module _ (cs : List (Row (List (Term V)))) (x : Account V) (s : Keeping m cs x) (k : KeepsValues x.mode) where
+    module _ (x : Account V) (s : Valued x) (k : KeepsValues x.mode) where
       abbrev instances : ℕ
       instances = x.instances.count
 
@@ -246,7 +257,7 @@ module _ {V : Type 0} where
         pub written_fails : FirstFailing (Holds m) (constraints_kept m x (constraints x.given)) (failing m (values_of m x (Some done)))
         written_fails =
             let answer = failing m (values_of m x (Some done)) in
-            ((f.fails_alike (kept_of m x) (kept_long cs x s (s.instances_kept k) (s.witnesses_kept k))).same answer).0
+            ((f.fails_alike (kept_of m x) (kept_long x (s.instances_kept k) (s.witnesses_kept k))).same answer).0
             (subst (λ vs. FirstFailing (Holds m) (rows_at m instances (kept_of m x ++ vs) (rows_of x done)) answer) (f.added k) finished_fails)
 
         -- .. and by Marlin's condition
@@ -277,19 +288,19 @@ module _ {V : Type 0} where
     check_keeps (Prove matrices) x h = tt
 
     -- the answer names the first constraint that fails as written
-    pub check_right : (cs : List (Row (List (Term V)))) (x : Account V) → Keeping m cs x → Right x → (mode : SynthesisMode) → x.mode ≡ mode → Checkable mode x
+    pub check_right : (x : Account V) → Valued x → Right x → (mode : SynthesisMode) → x.mode ≡ mode → Checkable mode x
         → FirstFailing (Holds m) (constraints_kept m x (constraints x.given)) (failing_of m mode x)
-    check_right cs x s r Setup e h = absurd h
-    check_right cs x s r (Prove true) e h = reads_fail cs x s (subst KeepsValues (sym e) tt) x.finished (r.faithful (subst KeepsMatrices (sym e) tt))
-    check_right cs x s r (Prove false) e h =
+    check_right x s r Setup e h = absurd h
+    check_right x s r (Prove true) e h = reads_fail x s (subst KeepsValues (sym e) tt) x.finished (r.faithful (subst KeepsMatrices (sym e) tt))
+    check_right x s r (Prove false) e h =
         let none_written = s.bare (λ k. subst KeepsMatrices e k) in
         subst (λ rs. AllByRecursion (Holds m) (map (each (worth m (value m x.instances.count (kept_of m x) (worths m x.instances.count (kept_of m x) (lists x.given))))) rs)) (sym none_written) tt
 
-    pub check_marlin : (cs : List (Row (List (Term V)))) (x : Account V) → Keeping m cs x → Right x → (mode : SynthesisMode) → x.mode ≡ mode → Checkable mode x
+    pub check_marlin : (x : Account V) → Valued x → Right x → (mode : SynthesisMode) → x.mode ≡ mode → Checkable mode x
         → KeepsMatrices mode → (done : Finished V) → x.finished ≡ Some done
         → FirstFailing (Marlin m (all_kept_of m x done)) (map (each (cells m x.instances.count)) (rows_of x done)) (failing_of m mode x)
-    check_marlin cs x s r Setup e h j done f = absurd h
-    check_marlin cs x s r (Prove true) e h j done f =
+    check_marlin x s r Setup e h j done f = absurd h
+    check_marlin x s r (Prove true) e h j done f =
         subst (λ o. FirstFailing (Marlin m (all_kept_of m x done)) (map (each (cells m x.instances.count)) (rows_of x done)) (failing m (values_of m x o))) (sym f)
-        (marlin_fails cs x s (subst KeepsValues (sym e) tt) done (r.faithful (subst KeepsMatrices (sym e) tt) done f))
-    check_marlin cs x s r (Prove false) e h j done f = absurd j
+        (marlin_fails x s (subst KeepsValues (sym e) tt) done (r.faithful (subst KeepsMatrices (sym e) tt) done f))
+    check_marlin x s r (Prove false) e h j done f = absurd j

@@ -8,7 +8,7 @@ use Rattle.variables.specs.declared.Term.{Term}
 use Rattle.variables.specs.Refusals.{Told}
 use Rattle.account.specs.declared.SynthesisMode.{SynthesisMode}
 use Rattle.account.specs.declared.OptimizationGoal.{OptimizationGoal}
-use Rattle.account.specs.declared.SynthesisError.{SynthesisError}
+use Rattle.variables.specs.declared.SynthesisError.{SynthesisError}
 use Rattle.account.specs.Rows.{Row, Matrices}
 use Rattle.account.specs.Given.{Given}
 use Rattle.account.specs.Account.{Account, plain_lists, constraint_lists, Effect, asks, checks, writes, sets_mode, sets_goal, names_instance, names_witness, names_lists, constrains, finalises, opened, changed, failing_of, value_of, matrices_of}

@@ -1,31 +1,24 @@
 -- Why a call is refused, by the number that is told. Assumes nothing.
-use Rattle.std.specs.Prelude.{◌≡◌, ◌≢◌, ℕ, ◌+◌, ◌<◌, List, [], ◌∷◌, ◌++◌, length, take, Some, None, Err, Result, slice_index_or}
+use Rattle.std.specs.Prelude.{◌≡◌, ◌≢◌, ℕ, ◌+◌, ◌<◌, List, ◌∷◌, ◌++◌, length, take, Some, None, Err, Result, slice_index_or}
 use Rattle.std.specs.List.{slice_get}
 use Rattle.field.specs.Laws.{Model}
-use Rattle.variables.specs.Refusals.{Told}
+use Rattle.variables.specs.Refusals.{Told, number_alone, number_at, error_number}
 use Rattle.variables.specs.declared.LcIndex.{LcIndex}
 use Rattle.variables.specs.declared.Variable.{Variable}
 use Rattle.variables.specs.declared.Variable.TheVariants.{SymbolicLc}
 use Rattle.variables.specs.declared.Term.{Term}
 use Rattle.account.specs.declared.Mark.TheVariants.{Plain}
 use Rattle.account.specs.declared.SynthesisMode.{SynthesisMode}
-use Rattle.account.specs.declared.SynthesisError.{SynthesisError}
+use Rattle.variables.specs.declared.SynthesisError.{SynthesisError}
 use Rattle.account.specs.declared.OptimizationGoal.{OptimizationGoal}
 use Rattle.account.specs.Given.{marks, lists, KnownVariable}
 use Rattle.account.specs.Finish.{places}
 use Rattle.account.specs.Rows.{Matrices}
 use Rattle.account.specs.Account.{Account, KeepsMatrices, KeepsValues, KnownAt, rule_of, matrices_of}
 use Rattle.account.specs.Calls.{Call, set_mode, set_optimization_goal, new_input_variable, new_witness_variable, new_lc, enforce_constraint, which_is_unsatisfied, assigned_value, finalize, to_matrices}
-use Rattle.account.specs.Refusals.{Lengths, limit, capacity, value_places, error_number, used_terms, used_entries, room_of, start_of, refusal}
+use Rattle.account.specs.Refusals.{Lengths, limit, capacity, value_places, used_terms, used_entries, room_of, start_of, refusal}
 use Rattle.account.specs.Laws.{StopsAt}
 use Rattle.account.specs.Conditions.{Fresh, Fits}
-
--- what is told: a number alone, or with the list and the place of a term
-abbrev pub number_alone : ℕ → Told
-number_alone number = record { number = number; values = [] }
-
-abbrev pub number_at : (number list place : ℕ) → Told
-number_at number list place = record { number = number; values = list ∷ place ∷ [] }
 
 module _ {V : Type 0} where
   abbrev pub KnownHere : Account V → Variable → Type 0

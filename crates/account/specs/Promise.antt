@@ -13,7 +13,7 @@ use Rattle.variables.specs.Laws.{Means}
 use Rattle.account.specs.declared.Mark.TheVariants.{Plain}
 use Rattle.account.specs.declared.SynthesisMode.TheVariants.{Prove}
 use Rattle.account.specs.declared.OptimizationGoal.TheVariants.{Constraints, Weight}
-use Rattle.account.specs.declared.SynthesisError.{SynthesisError}
+use Rattle.variables.specs.declared.SynthesisError.{SynthesisError}
 use Rattle.account.specs.Given.{marks, lists, marked, KnownVariable, Known}
 use Rattle.account.specs.Worths.{worths}
 use Rattle.account.specs.Rests.{AllKept, Found}

@@ -6,13 +6,12 @@ use Rattle.field.specs.Laws.{Model}
 use Rattle.variables.specs.declared.Variable.{Variable}
 use Rattle.variables.specs.declared.Variable.TheVariants.{Zero, One, Instance, Witness, SymbolicLc}
 use Rattle.variables.specs.declared.Term.{Term}
-use Rattle.variables.specs.Refusals.{Told}
+use Rattle.variables.specs.Refusals.{Told, number_alone, number_at, error_number}
 use Rattle.account.specs.declared.Mark.{Mark}
 use Rattle.account.specs.declared.Mark.TheVariants.{Plain, A}
 use Rattle.account.specs.declared.SynthesisMode.{SynthesisMode}
 use Rattle.account.specs.declared.SynthesisMode.TheVariants.{Setup, Prove}
-use Rattle.account.specs.declared.SynthesisError.{SynthesisError}
-use Rattle.account.specs.declared.SynthesisError.TheVariants.{MissingCS, AssignmentMissing, DivisionByZero, Unsatisfiable, PolynomialDegreeTooLarge, UnexpectedIdentity, MalformedVerifyingKey, UnconstrainedVariable}
+use Rattle.variables.specs.declared.SynthesisError.{SynthesisError}
 use Rattle.account.specs.Given.{marks, lists}
 use Rattle.account.specs.Finish.{Room, Start, Stage, untaken, places, lacks, finish_within}
 use Rattle.account.specs.Rows.{Matrices}
@@ -40,24 +39,13 @@ value_places (Prove matrices) len = capacity len
 
 -- a refusal that carries no values, where a test says so
 abbrev pub when : Bool → ℕ → Option Told
-when fails number = cond fails (Some (record { number = number; values = [] })) None
+when fails number = cond fails (Some (number_alone number)) None
 
 -- the first of some tests, made in order, that refuses
 abbrev pub first : List (Option Told) → Option Told
 first [] = None
 first (None ∷ rest) = first rest
 first (Some refusal ∷ rest) = Some refusal
-
--- the place of an error in SynthesisError, from 1
-abbrev pub error_number : SynthesisError → ℕ
-error_number MissingCS = 1
-error_number AssignmentMissing = 2
-error_number DivisionByZero = 3
-error_number Unsatisfiable = 4
-error_number PolynomialDegreeTooLarge = 5
-error_number UnexpectedIdentity = 6
-error_number MalformedVerifyingKey = 7
-error_number UnconstrainedVariable = 8
 
 -- 16: a constraint's own list
 abbrev pub own_list : Mark → Option ℕ
@@ -75,7 +63,7 @@ variable_refusal n w before (SymbolicLc k) = cond (nat_lt k.0 (length before)) (
 -- a refusal of a term carries its list and its place there
 abbrev pub at_term : (list term : ℕ) → Option ℕ → Option Told
 at_term list term None = None
-at_term list term (Some number) = Some (record { number = number; values = list ∷ term ∷ [] })
+at_term list term (Some number) = Some (number_at number list term)
 
 -- a test that bare mode does not make
 abbrev pub unless_bare : SynthesisMode → Option Told → Option Told

@@ -20,31 +20,18 @@ pub enum Mark {
 }
 
 // What a circuit keeps. Prove without matrices is called bare.
-#[derive(Clone, Copy, PartialEq, Eq, Debug)]
+#[derive(Clone, Copy, PartialEq, Eq, PartialOrd, Ord, Debug)]
 pub enum SynthesisMode {
     Setup,
     Prove { construct_matrices: bool },
 }
 
 // What finalising works towards.
-#[derive(Clone, Copy, PartialEq, Eq, Debug)]
+#[derive(Clone, Copy, PartialEq, Eq, PartialOrd, Ord, Debug)]
 pub enum OptimizationGoal {
     None,
     Constraints,
     Weight,
-}
-
-// What can go wrong with a value that is handed in.
-#[derive(Clone, Copy, PartialEq, Eq, Debug)]
-pub enum SynthesisError {
-    MissingCS,
-    AssignmentMissing,
-    DivisionByZero,
-    Unsatisfiable,
-    PolynomialDegreeTooLarge,
-    UnexpectedIdentity,
-    MalformedVerifyingKey,
-    UnconstrainedVariable,
 }
 
 // What known lists are worth in rising order is the one way to give each symbol the worth of its list, and following symbols comes to

@@ -178,7 +178,9 @@ impl<'a, F: Field> LinearCombination<'a, F> {
     pub fn worth(&self, assignment: &Assignment<F>) -> Option<F>
         ensures { result ≡ evaluated F.model (assigned F.model assignment.now) (listed self.now) }
     {
-        terms::evaluate(self.terms(), assignment)
+        // a variable: `&[]` itself, passed beside an assignment, has no lifetime that the proof of a call can name
+        let named: [Option<F>; 0] = [];
+        terms::evaluate(self.terms(), assignment, &named)
     }
 
     // Whether the places can hold `n` terms. They are written by index then: of what is written through `get_mut` the length alone would be

@@ -6,7 +6,7 @@ mod impl_lc;
 mod text;
 
 pub use impl_lc::LinearCombination;
-pub use variables::{Assignment, LcIndex, Refusal, Term, Variable};
+pub use variables::{Assignment, LcIndex, Refusal, SynthesisError, Term, Variable};
 // the theorems
 pub use variables::{
     adding_places, compactify_keeps, evaluation_stands, lists_are_worth, merges_rise,

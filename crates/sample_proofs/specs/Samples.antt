@@ -12,17 +12,17 @@ use Rattle.variables.specs.Terms.{term}
 use Rattle.variables.specs.Compact.{compactify}
 use Rattle.variables.specs.Locate.{added}
 use Rattle.variables.specs.Evaluate.{read, evaluated}
-use Rattle.variables.specs.Refusals.{Told}
+use Rattle.variables.specs.Refusals.{Told, error_number}
 use Rattle.account.specs.declared.OptimizationGoal.TheVariants.{None as NoGoal, Constraints, Weight}
 use Rattle.account.specs.declared.SynthesisMode.TheVariants.{Setup, Prove}
-use Rattle.account.specs.declared.SynthesisError.TheVariants.{MissingCS, AssignmentMissing, DivisionByZero, Unsatisfiable, PolynomialDegreeTooLarge, UnexpectedIdentity, MalformedVerifyingKey, UnconstrainedVariable}
+use Rattle.variables.specs.declared.SynthesisError.TheVariants.{MissingCS, AssignmentMissing, DivisionByZero, Unsatisfiable, PolynomialDegreeTooLarge, UnexpectedIdentity, MalformedVerifyingKey, UnconstrainedVariable}
 use Rattle.account.specs.Given.{lists}
 use Rattle.account.specs.Evaluate.{failing}
 use Rattle.account.specs.Finish.{uses_in, uses, weighs_more, outline_none, outline_by_weight, untaken, expanded, finish, most_places}
 use Rattle.account.specs.Rows.{Row, Cell, cells, Matrices, matrices}
 use Rattle.account.specs.Account.{Account, with_mode, with_goal, with_witnesses, with_constraints, with_finished, rule_of, made_in, value_of}
 use Rattle.account.specs.Calls.{Call, set_mode, set_optimization_goal, new_input_variable, new_witness_variable, new_lc, enforce_constraint, which_is_unsatisfied, assigned_value, finalize, to_matrices, unit, named, unsatisfied, assigned, written, Event, accepted, account}
-use Rattle.account.specs.Refusals.{Lengths, capacity, when, error_number, at_term, stages_of, refusal}
+use Rattle.account.specs.Refusals.{Lengths, capacity, when, at_term, stages_of, refusal}
 use Rattle.account.specs.Run.{log_of}
 
 abbrev pub num : ℕ → P31

@@ -8,7 +8,9 @@ mod tests {
     use field::{Field, NotAMember};
     use gf8::Gf8;
     use p31::P31;
-    use relations::{Assignment, LcIndex, LinearCombination, Refusal, Term, Variable};
+    use relations::{
+        Assignment, LcIndex, LinearCombination, Refusal, SynthesisError, Term, Variable,
+    };
     use std::test::Fail;
 
     fn byte(value: u8) -> Gf8 {
@@ -308,6 +310,82 @@ mod tests {
         let mut none: [Term<Gf8>; 0] = [];
         let empty = LinearCombination::whole(&mut none).to_string(rt.alloc())?;
         assert_eq!(rt; empty.as_str(), "");
+        Ok(())
+    }
+
+    // The texts are those of the Rust, and the number of an error is its place, from 1. A refusal by an error has its number and text.
+    #[test]
+    fn error_texts(rt: HostRuntime) -> Result<(), Fail> {
+        let errors = [
+            SynthesisError::MissingCS,
+            SynthesisError::AssignmentMissing,
+            SynthesisError::DivisionByZero,
+            SynthesisError::Unsatisfiable,
+            SynthesisError::PolynomialDegreeTooLarge,
+            SynthesisError::UnexpectedIdentity,
+            SynthesisError::MalformedVerifyingKey,
+            SynthesisError::UnconstrainedVariable,
+        ];
+        let texts = [
+            "the constraint system was `None`",
+            "an assignment for a variable could not be computed",
+            "division by zero",
+            "unsatisfiable constraint system",
+            "polynomial degree is too large",
+            "encountered an identity element in the CRS",
+            "malformed verifying key",
+            "auxiliary variable was unconstrained",
+        ];
+        let numbers = [1u8, 2, 3, 4, 5, 6, 7, 8];
+        for at in 0..8usize {
+            let text = errors[at].to_string(rt.alloc())?;
+            assert_eq!(rt; text.as_str(), texts[at]);
+            assert_eq!(rt; errors[at].number(), numbers[at]);
+            let refusal = Refusal::from(errors[at]);
+            let text = refusal.to_string(rt.alloc())?;
+            assert_eq!(rt; text.as_str(), texts[at]);
+            assert_eq!(rt; refusal.number(), numbers[at]);
+        }
+        Ok(())
+    }
+
+    #[test]
+    fn refusal_texts(rt: HostRuntime) -> Result<(), Fail> {
+        let refusals = [
+            Refusal::SetTooLate,
+            Refusal::InstancesFull,
+            Refusal::WitnessesFull,
+            Refusal::IndexFull,
+            Refusal::TermsFull,
+            Refusal::UnknownVariable { list: 2, term: 10 },
+            Refusal::ConstraintList {
+                list: 0,
+                term: usize::MAX,
+            },
+            Refusal::TablesUnsound,
+            Refusal::ConstraintsNotKept,
+            Refusal::TableTooShort,
+            Refusal::ConstraintsFull,
+        ];
+        let texts = [
+            "mode or goal set after a variable, a combination or a constraint",
+            "no place for another instance variable",
+            "no place for another witness variable",
+            "too few free index entries",
+            "too few free term places",
+            "unknown variable in list 2, term 10",
+            "constraint's own list in list 0, term 18446744073709551615",
+            "the lent tables are not sound",
+            "constraints are counted and not kept",
+            "a lent table is too short",
+            "no place for another constraint",
+        ];
+        let numbers = [10u8, 11, 12, 13, 14, 15, 16, 17, 18, 19, 20];
+        for at in 0..11usize {
+            let text = refusals[at].to_string(rt.alloc())?;
+            assert_eq!(rt; text.as_str(), texts[at]);
+            assert_eq!(rt; refusals[at].number(), numbers[at]);
+        }
         Ok(())
     }
 }

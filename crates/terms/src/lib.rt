@@ -10,11 +10,10 @@ ghost use Rattle.variables.specs.Compact as compact;
 ghost use Rattle.variables.specs.Locate.{first_is, location, gained};
 ghost use Rattle.variables.specs.Locate as sought;
 ghost use Rattle.variables.specs.Merge.{merged};
-ghost use Rattle.variables.specs.Evaluate.{evaluated};
-ghost use Rattle.variables.specs.Assigned.{assigned};
+ghost use Rattle.variables.specs.Evaluate.{read, evaluated};
 
 use field::Field;
-use variables::{Assignment, Term, Variable};
+use variables::{Assignment, LcIndex, Term, Variable};
 
 mod combine;
 mod merging;
@@ -162,13 +161,31 @@ pub fn merge<F: Field, C: Combine<F>>(
     }
 }
 
-// What a list is worth, or none where a term names a symbol or a value that is not kept.
-pub fn evaluate<F: Field>(terms: &[Term<F>], assignment: &Assignment<F>) -> Option<F>
-    ensures { result ≡ evaluated F.model (assigned F.model assignment.now) terms.now }
+// The value of a variable, where it is kept; `named` has those of the symbols.
+pub fn value_of<F: Field>(
+    assignment: &Assignment<F>,
+    named: &[Option<F>],
+    variable: Variable,
+) -> Option<F>
+    ensures { result ≡ read F.model assignment.now.instances.now assignment.now.witnesses.now named.now variable }
+{
+    match variable {
+        Variable::SymbolicLc(LcIndex(k)) => named.get(k).copied().flatten(),
+        other => assignment.value(other),
+    }
+}
+
+// What a list is worth, or none where a term names a value that is not kept; `named` has the values of the symbols.
+pub fn evaluate<F: Field>(
+    terms: &[Term<F>],
+    assignment: &Assignment<F>,
+    named: &[Option<F>],
+) -> Option<F>
+    ensures { result ≡ evaluated F.model (read F.model assignment.now.instances.now assignment.now.witnesses.now named.now) terms.now }
 {
     let mut sum = F::zero();
     for t in terms {
-        let value = assignment.value(t.variable)?;
+        let value = value_of(assignment, named, t.variable)?;
         sum = sum.sum(t.number.product(value));
     }
     Some(sum)

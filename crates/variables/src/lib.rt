@@ -5,7 +5,8 @@ ghost use Rattle.std.specs.Prelude.{◌≡◌};
 ghost use Rattle.variables.specs.Order.{below, Ordered};
 ghost use Rattle.variables.specs.Questions.{is_zero, is_one, is_instance, is_witness, is_lc, lc_index, column_of};
 ghost use Rattle.variables.specs.Terms.{term, once, nothing};
-ghost use Rattle.variables.specs.Refusals.{told};
+ghost use Rattle.variables.specs.Refusals.{told, error_number};
+ghost use Rattle.variables.specs.declared.Refusal.TheVariants.{Synthesis};
 ghost use Rattle.variables.specs.Laws.{Compacts, Adds, ListsWorth, MergesRise, Seeks, Evaluates};
 
 mod assignment;
@@ -68,11 +69,61 @@ impl<F: Field> Default for Term<F> {
     }
 }
 
+// What can go wrong while a circuit is written.
+#[derive(Clone, Copy, PartialEq, Eq, Debug)]
+pub enum SynthesisError {
+    MissingCS,
+    AssignmentMissing,
+    DivisionByZero,
+    Unsatisfiable,
+    PolynomialDegreeTooLarge,
+    UnexpectedIdentity,
+    MalformedVerifyingKey,
+    UnconstrainedVariable,
+}
+
+impl SynthesisError {
+    // its place among the errors, from 1
+    pub fn number(self) -> u8
+        ensures { result ≡ error_number self }
+    {
+        match self {
+            SynthesisError::MissingCS => 1,
+            SynthesisError::AssignmentMissing => 2,
+            SynthesisError::DivisionByZero => 3,
+            SynthesisError::Unsatisfiable => 4,
+            SynthesisError::PolynomialDegreeTooLarge => 5,
+            SynthesisError::UnexpectedIdentity => 6,
+            SynthesisError::MalformedVerifyingKey => 7,
+            SynthesisError::UnconstrainedVariable => 8,
+        }
+    }
+}
+
 // Why a call is denied. specs/Refusals has the number of each.
 #[derive(Clone, Copy, PartialEq, Eq, Debug)]
 pub enum Refusal {
+    // an error stands in a value's place; or a check in Setup, where an assignment is missing
+    Synthesis(SynthesisError),
+    // mode or goal are set after a variable, a combination or a constraint
+    SetTooLate,
+    // no place for one instance, or one witness, more
+    InstancesFull,
+    WitnessesFull,
+    // too few free index entries, or term places
+    IndexFull,
+    TermsFull,
+    // a term names a variable that is not known, or a constraint's own list
+    UnknownVariable { list: usize, term: usize },
+    ConstraintList { list: usize, term: usize },
+    // the lent tables are not sound
+    TablesUnsound,
+    // a check where constraints are counted and not kept
+    ConstraintsNotKept,
     // a lent table is too short for the answer
     TableTooShort,
+    // no constraint more can be counted
+    ConstraintsFull,
 }
 
 impl Refusal {
@@ -80,8 +131,28 @@ impl Refusal {
         ensures { result ≡ (told self).number }
     {
         match self {
+            Refusal::Synthesis(error) => error.number(),
+            Refusal::SetTooLate => 10,
+            Refusal::InstancesFull => 11,
+            Refusal::WitnessesFull => 12,
+            Refusal::IndexFull => 13,
+            Refusal::TermsFull => 14,
+            Refusal::UnknownVariable { .. } => 15,
+            Refusal::ConstraintList { .. } => 16,
+            Refusal::TablesUnsound => 17,
+            Refusal::ConstraintsNotKept => 18,
             Refusal::TableTooShort => 19,
+            Refusal::ConstraintsFull => 20,
         }
+    }
+}
+
+// An error in a value's place denies the call.
+impl From<SynthesisError> for Refusal {
+    ghost from_gives = { λ e r. r ≡ Synthesis e };
+
+    fn from(error: SynthesisError) -> Refusal {
+        Refusal::Synthesis(error)
     }
 }
 

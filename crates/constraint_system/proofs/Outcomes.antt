@@ -1,0 +1,91 @@
+-- What follows from what a call answers and leaves. Assumes nothing.
+use Rattle.std.proofs.Common.{◌≡◌, ℕ, ◌≤◌, Bool, true, false, not, List, Some, None, Ok, Err, Option, Result, IfOk, sym, refl, ap, ◌∙◌, subst, subst₂}
+use Rattle.std.specs.Option.{is_some, is_none}
+use Rattle.std.proofs.lemmas.Bool.{true≢false}
+use Rattle.field.specs.Laws.{Model}
+use Rattle.variables.specs.declared.Refusal.{Refusal}
+use Rattle.variables.specs.declared.Term.{Term}
+use Rattle.variables.specs.Refusals.{Told, answered}
+use Rattle.account.specs.declared.SynthesisMode.{SynthesisMode}
+use Rattle.account.specs.declared.SynthesisMode.TheVariants.{Setup, Prove}
+use Rattle.account.specs.Rows.{Holds, constraints}
+use Rattle.account.specs.Account.{opened, constraints_kept}
+use Rattle.account.specs.Refusals.{first, opening_refusal}
+use Rattle.account.proofs.Checks.{one_answer}
+use Rattle.tables.specs.declared.Counts.{Counts}
+use Rattle.tables.specs.Held.{Held, State, lengths, KeepsBeyond}
+use Rattle.tables.specs.Sound.{account_of}
+use Rattle.tables.specs.Follows.{Shows}
+use Rattle.tables.specs.Laws.{Names, Satisfies}
+use Rattle.tables.proofs.Beyond.{calls_keep_beyond}
+use Rattle.tables.proofs.FollowsSetting.{new_shows}
+use Rattle.tables.specs.Calls.{Outcome, outcome, opened_counts, opened_tables, opening, enforce_constraint_tests, with_constraint, with_constraint_lists, constraining}
+
+-- what holds of the answer of an accepted call
+pub when_ok : {S X : Type 0} (o : Option Told) (a : X) (accepted before : S) (r : Result X Refusal) (t : S) (P : X → Type 0) → (o ≡ None → P a)
+    → outcome o a accepted before ≡ record { answer = answered r; state = t } → IfOk r P
+when_ok o a accepted before (Err e) t P h is = tt
+when_ok {S} {X} None a accepted before (Ok x) t P h is =
+    let answer = ap (λ (z : Outcome S X). z.answer) is in let same : a ≡ x = cc in subst P same (h refl)
+when_ok {S} {X} (Some refusal) a accepted before (Ok x) t P h is =
+    let answer = ap (λ (z : Outcome S X). z.answer) is in let never : ⊥ = cc in absurd never
+
+-- what a test for nothing answers, by what it says of something
+pub none_told : {X : Type 0} (o : Option X) (b : Bool) → is_some o ≡ not b → is_none o ≡ b
+none_told None true e = refl
+none_told None false e = absurd (true≢false (sym e))
+none_told (Some x) true e = absurd (true≢false e)
+none_told (Some x) false e = refl
+
+-- calls that are refused alike
+pub refused_alike : {S X Y : Type 0} (o : Option Told) (a : X) (b : Y) (accepted before : S) (refusal : Told) (t : S)
+    → outcome o a accepted before ≡ record { answer = Err refusal; state = t } → outcome o b accepted before ≡ record { answer = Err refusal; state = t }
+refused_alike {S} {X} None a b accepted before refusal t is =
+    let answer = ap (λ (z : Outcome S X). z.answer) is in let never : ⊥ = cc in absurd never
+refused_alike {S} {X} {Y} (Some r) a b accepted before refusal t is =
+    let answer = ap (λ (z : Outcome S X). z.answer) is in
+    let same : r ≡ refusal = cc in
+    λ i. record { answer = Err (same i); state = (is i).state }
+
+module _ {V : Type 0} (m : Model V) (s : State V) where
+  -- a check that names none says that all hold
+  pub none_satisfies : (answer : Option ℕ) → Names m s answer → Satisfies m s (is_none answer)
+  none_satisfies None h = (λ _. h, λ _. refl)
+  none_satisfies (Some j) h = (
+    λ e. absurd (true≢false (sym e)),
+    λ all. let x = account_of s in let same = one_answer (Holds m) (constraints_kept m x (constraints x.given)) (Some j) None h all in let never : ⊥ = cc in absurd never,
+  )
+
+-- what opening leaves
+module _ {V : Type 0} (m : Model V) (h : Held V) (c : Counts) (left : Held V) where
+  opened_as : (o : Option Told) → opening_refusal (lengths h) ≡ o → outcome o opened_counts (opened_tables m h) h ≡ record { answer = Ok c; state = left }
+      → KeepsBeyond h left × Shows (record { counts = c; tables = left }) (opened m)
+  opened_as None e is =
+      let answer = ap (λ (z : Outcome (Held V) Counts). z.answer) is in
+      let counts : opened_counts ≡ c = cc in
+      let tables : opened_tables m h ≡ left = ap (λ (z : Outcome (Held V) Counts). z.state) is in (
+        subst (KeepsBeyond h) tables ((calls_keep_beyond m).new h e),
+        subst₂ (λ k t. Shows (record { counts = k; tables = t }) (opened m)) counts tables (new_shows m h e),
+      )
+  opened_as (Some r) e is = let answer = ap (λ (z : Outcome (Held V) Counts). z.answer) is in let never : ⊥ = cc in absurd never
+
+  pub opened_well : opening m h ≡ record { answer = Ok c; state = left } → KeepsBeyond h left × Shows (record { counts = c; tables = left }) (opened m)
+  opened_well is = opened_as (opening_refusal (lengths h)) refl is
+
+module _ {V : Type 0} (s : State V) where
+  -- a constraint names no instance
+  lists_stay : (mode : SynthesisMode) (a b c : List (Term V)) → (with_constraint_lists mode a b c s).counts.instances ≡ s.counts.instances
+  lists_stay Setup a b c = refl
+  lists_stay (Prove true) a b c = refl
+  lists_stay (Prove false) a b c = refl
+
+  outcome_stays : (o : Option Told) (accepted : State V) → accepted.counts.instances ≡ s.counts.instances
+      → (outcome o (tt {0}) accepted s).state.counts.instances ≡ s.counts.instances
+  outcome_stays None accepted e = e
+  outcome_stays (Some refusal) accepted e = refl
+
+  pub one_stays : (answer : Result (Unit {0}) Told) (a b c : List (Term V)) (t : State V) → 1 ≤ s.counts.instances
+      → constraining s a b c ≡ record { answer = answer; state = t } → 1 ≤ t.counts.instances
+  one_stays answer a b c t one is =
+      subst (λ (n : ℕ). 1 ≤ n)
+      (sym (outcome_stays (first (enforce_constraint_tests s a b c)) (with_constraint a b c s) (lists_stay s.counts.mode a b c)) ∙ ap (λ (o : Outcome (State V) (Unit {0})). o.state.counts.instances) is) one

@@ -1,0 +1,19 @@
+use Rattle.variables.specs.Refusals.{answered}
+use Rattle.account.specs.Calls as calls
+use Rattle.tables.specs.Held.{state}
+use Rattle.tables.specs.Calls.{naming_instance}
+use Rattle.tables.proofs.Beyond.{calls_keep_beyond}
+use Rattle.tables.proofs.Calls.{calls_follow}
+use Rattle.tables.proofs.Clauses.{follows_by_outcome, keeps_by_outcome}
+use Rattle.constraint_system.proofs.constraint_system.ConstraintSystem.new_input_variable.Goals as goal
+
+pub returns-clause-beyond : goal.returns-clause-beyond
+returns-clause-beyond g c =
+    let s = state c.args.self.now.counts c.args.tables.now in
+    keeps_by_outcome (naming_instance s c.args.value) (answered c.new_input_variable.result) s (state c.new_input_variable.new.counts c.new_input_variable.new.tables) c.new_input_variable.ensures.does ((calls_keep_beyond g.F.Field.model).new_input_variable s c.args.value)
+
+pub returns-clause-account : goal.returns-clause-account
+returns-clause-account g c =
+    let m = g.F.Field.model in
+    let s = state c.args.self.now.counts c.args.tables.now in
+    follows_by_outcome m (calls.new_input_variable c.args.value) calls.named (naming_instance s c.args.value) c.new_input_variable.result s (state c.new_input_variable.new.counts c.new_input_variable.new.tables) c.new_input_variable.ensures.does ((calls_follow m).new_input_variable s c.args.value)

@@ -1,0 +1,10 @@
+#![tactic(auto)]
+
+// A circuit over lent tables: its variables, combinations and constraints are named by calls, and checked at the kept values. The names
+// follow module r1cs of ark-relations.
+mod constraint_system;
+
+pub use account::{Mark, OptimizationGoal, SynthesisMode};
+pub use constraint_system::ConstraintSystem;
+pub use tables::{Entry, Tables};
+pub use variables::{LcIndex, Refusal, SynthesisError, Term, Variable};
