@@ -52,6 +52,10 @@ pub for_values : (mode : SynthesisMode) (count len : ℕ) → count ≤ value_pl
 for_values Setup count len h k = absurd k
 for_values (Prove matrices) count len h k = h
 
+pub with_values : (mode : SynthesisMode) (count len : ℕ) → count ≤ capacity len → KeepsValues mode → count ≤ value_places mode len
+with_values Setup count len h k = absurd k
+with_values (Prove matrices) count len h k = h
+
 -- a test of one number
 pub within : (due places : ℕ) → (not (lacks due places) ≡ true) ↔ (due ≤ places)
 within due places = (λ e. ltb-false places due (not-true (lacks due places) e), λ h. not_from_false (lacks due places) (le-ltb places due h))
@@ -161,7 +165,7 @@ module _ {V : Type 0} where
         λ h. let fit = h found refl in none_first both (no_lack _ _ 19 fit.0, (no_lack _ _ 19 fit.1, tt)),
       )
 
-  stages_iff : (r : Result (Stage V) Told) → (result_err r ≡ None) ↔ ((end : Stage V) × (r ≡ Ok end))
+  pub stages_iff : (r : Result (Stage V) Told) → (result_err r ≡ None) ↔ ((end : Stage V) × (r ≡ Ok end))
   stages_iff (Ok end) = (λ _. (end, refl), λ _. refl)
   stages_iff (Err t) = (λ e. absurd (some_none t _ refl e), λ h. absurd (let z : ◌≡◌ {A = ℕ} 0 1 = let f = h.1 in cc in omega arith))
 

@@ -24,7 +24,7 @@ use Rattle.account.proofs.Finishes.{worths_original, row_holds, Meets, Stands, A
 use Rattle.account.proofs.Matrices.{marlin_holds, marlin_first}
 use Rattle.account.proofs.Checks.{one_answer, first_append, rows_each}
 
-marks_each : {X Y : Type 0} (f : X → Y) (xs : List X) → row_marks (map f xs) ≡ row_marks xs
+pub marks_each : {X Y : Type 0} (f : X → Y) (xs : List X) → row_marks (map f xs) ≡ row_marks xs
 marks_each f [] = refl
 marks_each f (x ∷ xs) = ap (λ ms. A ∷ B ∷ C ∷ ms) (marks_each f xs)
 

@@ -12,13 +12,13 @@ use Rattle.account.specs.Finish.{Finishing, Stage, places}
 use Rattle.account.specs.Rows.{finished_lists}
 use Rattle.account.specs.Account.{Finished, Account, KeepsMatrices, KeepsValues, builds, plain_lists, constraint_lists, added_count, rule_of, opened, finish_of, made_in, changed}
 use Rattle.account.specs.Calls.{Call, set_mode, set_optimization_goal, new_input_variable, new_witness_variable, new_lc, enforce_constraint, which_is_unsatisfied, assigned_value, finalize, to_matrices, Event, effect_of, answer_of, after, after_all, account}
-use Rattle.account.specs.Refusals.{Lengths, capacity, value_places, finished_places, used_terms, used_entries, fits, room_of, start_of, stages_of, refusal}
+use Rattle.account.specs.Refusals.{Lengths, capacity, finished_places, used_terms, used_entries, fits, room_of, start_of, stages_of, refusal}
 use Rattle.account.specs.Laws.{FindsPlaces}
 use Rattle.account.specs.Conditions.{Conditions, Fits}
 use Rattle.account.specs.Run.{by_refusal, due, log_from, log_of, Run}
 use Rattle.account.specs.Promise.{TablesFit}
 use Rattle.account.proofs.Refuses.{enough}
-use Rattle.account.proofs.Accepts.{for_values, fits_iff, conditions}
+use Rattle.account.proofs.Accepts.{for_values, with_values, fits_iff, conditions}
 use Rattle.account.proofs.Places.{given_places, places_taken}
 use Rattle.account.proofs.Suffices.{places_suffice}
 use Rattle.account.proofs.Values.{open_means}
@@ -85,14 +85,10 @@ module _ {V : Type 0} where
             terms_fit = omega (arith, within.takes, within.terms_fit terms);
             index_fit = omega (arith, within.entries_fit index);
             witnesses_fit = λ v.
-                let room = at_least x.mode x.witnesses.count k.witnesses (witnesses v) v in
+                let room = with_values x.mode x.witnesses.count k.witnesses (witnesses v) v in
                 let free = for_values x.mode _ k.witnesses (within.witnesses_fit room) v in
                 omega arith;
           }
-        where
-          at_least : (mode : SynthesisMode) (count len : ℕ) → count ≤ capacity len → KeepsValues mode → count ≤ value_places mode len
-          at_least Setup count len h v = absurd v
-          at_least (Prove matrices) count len h v = h
 
       -- the stage that finalising ends in
       end_found : FindsPlaces m (rule_of m x.goal (lists x.given)) (room_of k x) (start_of x) (places (lists x.given)) (lists x.given) → (end : Stage V) × (stages_of m k x ≡ Ok end)

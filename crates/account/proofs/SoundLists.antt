@@ -50,7 +50,7 @@ starts_append (B ∷ ms) ns k j = starts_append ms ns (suc k) j
 starts_append (C ∷ ms) ns k j = starts_append ms ns (suc k) j
 
 module _ {X : Type 0} where
-  row_marks_long : (xs : List X) → length (row_marks xs) ≡ 3 * length xs
+  pub row_marks_long : (xs : List X) → length (row_marks xs) ≡ 3 * length xs
   row_marks_long [] = refl
   row_marks_long (x ∷ xs) = omega (arith, row_marks_long xs)
 
@@ -71,10 +71,10 @@ free_known n w before (SymbolicLc k) h = absurd h
 
 module _ {V : Type 0} where
   -- marks beside lists
-  abbrev beside : List Mark → List (List (Term V)) → List (Given V)
+  abbrev pub beside : List Mark → List (List (Term V)) → List (Given V)
   beside ms ls = map (λ e. marked e.0 e.1) (zip ms ls)
 
-  beside_marks : (ms : List Mark) (ls : List (List (Term V))) → length ls ≡ length ms → marks (beside ms ls) ≡ ms
+  pub beside_marks : (ms : List Mark) (ls : List (List (Term V))) → length ls ≡ length ms → marks (beside ms ls) ≡ ms
   beside_marks [] ls e = refl
   beside_marks (mark ∷ ms) [] e = absurd (omega arith)
   beside_marks (mark ∷ ms) (l ∷ ls) e = ap (λ r. mark ∷ r) (beside_marks ms ls (omega arith))
@@ -109,6 +109,29 @@ module _ {V : Type 0} where
   some_list : (ls us : List (List (Term V))) → Some ls ≡ Some us → ls ≡ us
   some_list ls us e = cc
 
+  -- the lists of added rows, and all finished lists, are sound with those that were given
+  pub rows_sound : (mode : SynthesisMode) (n w count : ℕ) (given : List (Given V)) (finished : List (List (Term V))) (combinations : List ℕ) → KeepsMatrices mode
+      → SoundLists mode n w count given None → WellFormed n w given (constraints given) finished combinations
+      → let k = length combinations in let more = beside (row_marks combinations) (drop (length given) finished) in
+      SoundLists mode n (w + k) (count + k) (given ++ more) (Some finished)
+  rows_sound mode n w count given finished combinations k sound formed =
+      let all = w + length combinations in
+      let rest = drop (length given) finished in
+      let ms = row_marks combinations in
+      let more = beside ms rest in
+      let same = beside_marks ms rest (omega (arith, length-drop (length given) finished, formed.long, row_marks_long combinations)) in
+      let rest_free = All-drop (Only (SymbolFree n all)) (length given) finished formed.symbol_free in
+      let many : length finished ≡ length (given ++ more)
+      = omega (arith, formed.long, length-append given more, length-map more (λ g. g.mark), ap length same, row_marks_long combinations) in
+      record {
+        known = known_append n all given more (known_wider _ _ _ _ (omega arith) (omega arith) given sound.known) (beside_known n all ms rest (marks given) rest_free)
+            (subst Triples (sym same) (row_triples combinations));
+        triples = λ _. counted_append given more ∙ omega (arith, sound.triples k, ap (λ l. length (starts_from 0 l)) same, row_starts combinations 0);
+        bare = λ bare. absurd (bare k);
+        long = λ _ us e. subst (λ ls. length ls ≡ length (given ++ more)) (some_list _ us e) many;
+        symbol_free = λ _ us e. subst (AllByRecursion (Only (SymbolFree n all))) (some_list _ us e) formed.symbol_free;
+      }
+
   module _ {m : Model V} (keeps : Keeps m) (cs : List (Row (List (Term V)))) (x : Account V) (s : Keeping m cs x) where
     bare_plain : (KeepsMatrices x.mode → ⊥) → AllByRecursion (λ mark. mark ≡ Plain) (marks x.given)
     bare_plain k = plain_where_none x.given s.known.triples (s.bare k)
@@ -137,22 +160,8 @@ module _ {V : Type 0} where
     -- with the added rows
     sound_made : (done : Finished V) → KeepsMatrices x.mode → WellFormed x.instances.count x.witnesses.count x.given (constraints x.given) done.lists done.combinations → SoundAt (Some done)
     sound_made done k formed =
-        let n = x.instances.count in
-        let w = x.witnesses.count + length done.combinations in
-        let more = drop (length x.given) done.lists in
-        let ms = row_marks done.combinations in
-        let long : length more ≡ length ms = omega (arith, length-drop (length x.given) done.lists, formed.long, row_marks_long done.combinations) in
-        let same = beside_marks ms more long in
-        record {
-          known = known_append n w x.given (beside ms more) (known_wider _ _ _ _ (omega arith) (omega arith) x.given s.known)
-              (beside_known n w ms more (marks x.given) (All-drop (Only (SymbolFree n w)) (length x.given) done.lists formed.symbol_free))
-              (subst Triples (sym same) (row_triples done.combinations));
-          triples = λ _.
-              counted_append x.given (beside ms more) ∙ omega (arith, ap length (s.as_written k), s.counted, ap (λ l. length (starts_from 0 l)) same, row_starts done.combinations 0);
-          bare = λ bare. absurd (bare k);
-          long = λ _ us e. omega (arith, ap length (some_list _ us e), formed.long, length-append x.given (beside ms more), length-map (beside ms more) (λ g. g.mark), ap length same, row_marks_long done.combinations);
-          symbol_free = λ _ us e. subst (AllByRecursion (Only (SymbolFree n w))) (some_list _ us e) formed.symbol_free;
-        }
+        rows_sound x.mode x.instances.count x.witnesses.count x.constraints x.given done.lists done.combinations k
+        (open_lists x.mode _ _ x.constraints x.given s.known (λ k. ap length (s.as_written k) ∙ sym s.counted) bare_plain) formed
 
   module _ {m : Model V} (keeps : Keeps m) (cs : List (Row (List (Term V)))) where
     by_mode : (x : Account V) (s : Keeping m cs x) → Right keeps x → (mode : SynthesisMode) → x.mode ≡ mode → (o : Option (Finished V)) → x.finished ≡ o → SoundAt keeps cs x s o

@@ -89,14 +89,26 @@ module _ {V : Type 0} where
     pub opened_right : Right (opened m)
     opened_right = open_right (opened m) refl
 
-    bare_made : (mode : SynthesisMode) (x : Account V) → (KeepsMatrices mode → ⊥) → made_in m mode x ≡ nothing_made
+    pub bare_made : (mode : SynthesisMode) (x : Account V) → (KeepsMatrices mode → ⊥) → made_in m mode x ≡ nothing_made
     bare_made Setup x h = absurd (h tt)
     bare_made (Prove true) x h = absurd (h tt)
     bare_made (Prove false) x h = refl
 
-    kept_long : (x : Account V) → length x.instances.kept ≡ x.instances.count → length x.witnesses.kept ≡ x.witnesses.count
+    pub kept_long : (x : Account V) → length x.instances.kept ≡ x.instances.count → length x.witnesses.kept ≡ x.witnesses.count
         → length (kept_of m x) ≡ x.instances.count + x.witnesses.count
     kept_long x i j = length-map (x.instances.kept ++ x.witnesses.kept) m.stands ∙ length-append x.instances.kept x.witnesses.kept ∙ ap₂ ◌+◌ i j
+
+    -- the values worked out for the added witnesses are those of the lists that they stand for
+    pub added_worths : (x : Account V) → Known x.instances.count x.witnesses.count x.given
+        → length x.instances.kept ≡ x.instances.count → length x.witnesses.kept ≡ x.witnesses.count
+        → map m.stands (added_values m x.instances.kept x.witnesses.kept (finish_of m x).outlined)
+        ≡ combination_worths m x.instances.count x.given (map (λ o. o.entry) (finish_of m x).outlined) (kept_of m x)
+    added_worths x known i j =
+        let rule = rule_of m x.goal (lists x.given) in
+        subst₂ (λ a b. Known a b x.given
+        → map m.stands (added_values m x.instances.kept x.witnesses.kept (finish m rule b (lists x.given)).outlined)
+        ≡ combination_worths m a x.given (map (λ o. o.entry) (finish m rule b (lists x.given)).outlined) (kept_of m x))
+        i j (added_stand keeps rule x.instances.kept x.witnesses.kept x.given) known
 
     module _ (cs : List (Row (List (Term V)))) (x : Account V) (s : Keeping m cs x) where
       abbrev n : ℕ
@@ -130,16 +142,6 @@ module _ {V : Type 0} where
             λ h. by_worth.1 (subst (λ rs. FirstFailing (Holds m) rs answer) (sym same) (alike'.1 h)),
           )
 
-      -- the values worked out for the added witnesses are those of the lists that they stand for
-      added_right : length x.instances.kept ≡ n → length x.witnesses.kept ≡ w
-          → map m.stands (added_values m x.instances.kept x.witnesses.kept (finish_of m x).outlined)
-          ≡ combination_worths m n x.given (map (λ o. o.entry) (finish_of m x).outlined) (kept_of m x)
-      added_right i j =
-          subst₂ (λ a b. Known a b x.given
-          → map m.stands (added_values m x.instances.kept x.witnesses.kept (finish m rule b (lists x.given)).outlined)
-          ≡ combination_worths m a x.given (map (λ o. o.entry) (finish m rule b (lists x.given)).outlined) (kept_of m x))
-          i j (added_stand keeps rule x.instances.kept x.witnesses.kept x.given) s.known
-
       made_with : (added : List V) → ((KeepsValues x.mode → ⊥) → added ≡ [])
           → (KeepsValues x.mode → map m.stands added ≡ combination_worths m n x.given (map (λ o. o.entry) (finish_of m x).outlined) (kept_of m x))
           → Faithful m (ended (made m added x)) (constraints x.given) (made m added x)
@@ -162,7 +164,7 @@ module _ {V : Type 0} where
       -- what finalising makes is faithful, by mode
       made_right : (mode : SynthesisMode) → x.mode ≡ mode → KeepsMatrices mode → Faithful m (ended (made_in m mode x)) (constraints x.given) (made_in m mode x)
       made_right Setup e k = made_with [] (λ _. refl) (λ v. absurd (subst KeepsValues e v))
-      made_right (Prove true) e k = made_with _ (λ empty. absurd (empty (subst KeepsValues (sym e) tt))) (λ v. added_right (s.instances_kept v) (s.witnesses_kept v))
+      made_right (Prove true) e k = made_with _ (λ empty. absurd (empty (subst KeepsValues (sym e) tt))) (λ v. added_worths x s.known (s.instances_kept v) (s.witnesses_kept v))
       made_right (Prove false) e k = absurd k
 
     pub right_changed : (cs : List (Row (List (Term V)))) (x : Account V) (e : Effect V) → builds x e ≡ true → Keeping m cs x → Right x → Right (changed m x e)
@@ -182,7 +184,7 @@ module _ {V : Type 0} where
     first_next xs r None h f = (h, f)
     first_next xs r (Some j) h f = (h, f)
 
-    failing_right : (rs : List (Row V)) → FirstFailing (Holds m) (map (each m.stands) rs) (failing m rs)
+    pub failing_right : (rs : List (Row V)) → FirstFailing (Holds m) (map (each m.stands) rs) (failing m rs)
     failing_right [] = tt
     failing_right (r ∷ rs) =
         cond_both (m.same (m.times r.a r.b) r.c) _ _ (FirstFailing (Holds m) (map (each m.stands) (r ∷ rs)))
@@ -193,7 +195,7 @@ module _ {V : Type 0} where
     or_zero_some [] = refl
     or_zero_some (v ∷ vs) = ap (λ l. v ∷ l) (or_zero_some vs)
 
-    or_zero_means : (o : Option V) (a : Member) → Means m o a → m.stands (or_zero m o) ≡ a
+    pub or_zero_means : (o : Option V) (a : Member) → Means m o a → m.stands (or_zero m o) ≡ a
     or_zero_means o a h = ap (λ p. m.stands (or_zero m p)) h.1 ∙ h.2
 
     -- a circuit whose values are kept

@@ -1,28 +1,27 @@
 -- What checks and questions answer is read off a work table that was filled. Assumes nothing.
-use Rattle.std.proofs.Common.{◌≤◌, not, ◌&&◌, ◌≡◌, ℕ, ◌+◌, true, false, cond, List, [], ◌∷◌, ◌++◌, map, length, get_or, take, drop, Some, None, Ok, Option, sym, refl, ap, ap₂, ◌∙◌, append-nil, arith}
+use Rattle.std.proofs.Common.{◌≤◌, not, ◌&&◌, ◌≡◌, ℕ, true, false, cond, List, [], ◌∷◌, map, length, get_or, take, drop, Some, None, Ok, Option, sym, refl, ap, ap₂, ◌∙◌, append-nil, arith}
 use lib.ListN.{length-map}
 use Rattle.std.specs.List.{slice_get}
 use Rattle.std.specs.Option.{is_none}
 use Rattle.std.proofs.lemmas.Bool.{true≢false, le-ltb}
-use Rattle.std.proofs.lemmas.List.{take_at, length-append}
+use Rattle.std.proofs.lemmas.List.{take_at}
 use Rattle.std.proofs.lemmas.Option.{slice_get-get_or}
 use Rattle.field.specs.Laws.{Model}
 use Rattle.variables.specs.declared.LcIndex.{LcIndex}
 use Rattle.variables.specs.declared.Variable.{Variable}
 use Rattle.variables.specs.declared.Variable.TheVariants.{Zero, One, Instance, Witness, SymbolicLc}
-use Rattle.variables.specs.declared.Term.{Term}
-use Rattle.variables.specs.Evaluate.{read, evaluated}
+use Rattle.variables.specs.Evaluate.{read}
 use Rattle.account.specs.declared.Mark.{Mark}
 use Rattle.account.specs.declared.Mark.TheVariants.{Plain, A, B, C}
 use Rattle.account.specs.declared.SynthesisMode.{SynthesisMode}
 use Rattle.account.specs.declared.SynthesisMode.TheVariants.{Setup, Prove}
 use Rattle.account.specs.Given.{Given, marks, lists, KnownVariable}
 use Rattle.account.specs.Rows.{rows}
-use Rattle.account.specs.Evaluate.{filled, filled_after, or_zero, failing}
+use Rattle.account.specs.Evaluate.{filled, or_zero, failing}
 use Rattle.account.specs.Finish.{lacks}
 use Rattle.account.specs.Account.{Account, if_plain, values_of, failing_of, value_of}
 use Rattle.account.specs.Refusals.{when, first, variable_refusal, check_refusal}
-use Rattle.account.proofs.Finds.{slice_there, some_is}
+use Rattle.account.proofs.Finds.{filled_long, slice_there, some_is}
 use Rattle.account.proofs.Refuses.{some_none, when_not, first_none, variables_refused}
 use Rattle.account.proofs.Values.{value_read}
 use Rattle.tables.specs.declared.Entry.{Entry}
@@ -37,12 +36,6 @@ is_none_means None e = refl
 is_none_means (Some x) e = absurd (true≢false (sym e))
 
 module _ {V : Type 0} (m : Model V) where
-  filled_long : (instances witnesses : List V) (named : List (Option V)) (ls : List (List (Term V))) → length (filled_after m instances witnesses named ls) ≡ length named + length ls
-  filled_long instances witnesses named [] = omega arith
-  filled_long instances witnesses named (l ∷ ls) =
-      let next = named ++ evaluated m (read m instances witnesses named) l ∷ [] in
-      omega (arith, filled_long instances witnesses next ls, length-append named (evaluated m (read m instances witnesses named) l ∷ []))
-
   module _ (s : State V) (work : List (Option V)) where
     abbrev x : Account V
     x = account_of s
@@ -52,7 +45,7 @@ module _ {V : Type 0} (m : Model V) where
 
     table_long : sound s ≡ true → length table ≡ s.counts.entries
     table_long h =
-        omega (arith, filled_long x.instances.kept x.witnesses.kept [] (lists x.given), length-map (given_of s) (λ (g : Given V). g.terms), length-map (entries_of s) (given_in s.tables.terms), entries_counted s h)
+        omega (arith, filled_long m x.instances.kept x.witnesses.kept [] (lists x.given), length-map (given_of s) (λ (g : Given V). g.terms), length-map (entries_of s) (given_in s.tables.terms), entries_counted s h)
 
     -- the places that were filled
     front : sound s ≡ true → take s.counts.entries (work_of m s work) ≡ table

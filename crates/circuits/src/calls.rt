@@ -88,7 +88,7 @@ pub fn should_construct_matrices(counts: &Counts) -> bool
 }
 
 // How many values there may be in a table of this length. Setup keeps none of a new variable, and goes by the limit alone.
-fn value_places(counts: &Counts, len: usize) -> usize
+pub fn value_places(counts: &Counts, len: usize) -> usize
     ensures { result ≡ value_places counts.now.mode len }
 {
     match counts.mode {

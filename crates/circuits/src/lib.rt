@@ -14,12 +14,12 @@ mod soundness;
 use account::Mark;
 pub use calls::{
     enforce_constraint, is_in_setup_mode, new_input_variable, new_lc, new_witness_variable, open,
-    set_mode, set_optimization_goal, should_construct_matrices,
+    set_mode, set_optimization_goal, should_construct_matrices, value_places,
 };
 pub use checks::{assigned_value, which_is_unsatisfied};
 pub use evaluation::{assignment, fill, first_failing};
 use field::Field;
-pub use places::{LIMIT, capacity, entries_of};
+pub use places::{LIMIT, capacity, entries_of, in_use};
 pub use scope::{NameFault, Scope, TermFault};
 pub use soundness::is_sound;
 use tables::{Counts, Entry, Tables};

@@ -1,5 +1,6 @@
 -- What follows from what a call answers and leaves. Assumes nothing.
-use Rattle.std.proofs.Common.{◌≡◌, ℕ, ◌≤◌, Bool, true, false, not, List, Some, None, Ok, Err, Option, Result, IfOk, sym, refl, ap, ◌∙◌, subst, subst₂}
+use Rattle.std.proofs.Common.{◌≡◌, ℕ, ◌≤◌, Bool, true, false, not, List, Some, None, Ok, Err, Option, Result, IfOk, ◌↔◌, sym, refl, ap, ◌∙◌, subst, subst₂}
+use Rattle.std.specs.List.{AllByRecursion}
 use Rattle.std.specs.Option.{is_some, is_none}
 use Rattle.std.proofs.lemmas.Bool.{true≢false}
 use Rattle.field.specs.Laws.{Model}
@@ -8,15 +9,17 @@ use Rattle.variables.specs.declared.Term.{Term}
 use Rattle.variables.specs.Refusals.{Told, answered}
 use Rattle.account.specs.declared.SynthesisMode.{SynthesisMode}
 use Rattle.account.specs.declared.SynthesisMode.TheVariants.{Setup, Prove}
-use Rattle.account.specs.Rows.{Holds, constraints}
-use Rattle.account.specs.Account.{opened, constraints_kept}
+use Rattle.account.specs.Calls.{Call, Answer}
+use Rattle.account.specs.Rows.{Row, Holds, FirstFailing}
+use Rattle.account.specs.Account.{opened}
 use Rattle.account.specs.Refusals.{first, opening_refusal}
 use Rattle.account.proofs.Checks.{one_answer}
 use Rattle.tables.specs.declared.Counts.{Counts}
 use Rattle.tables.specs.Held.{Held, State, lengths, KeepsBeyond}
-use Rattle.tables.specs.Sound.{account_of}
-use Rattle.tables.specs.Follows.{Shows}
-use Rattle.tables.specs.Laws.{Names, Satisfies}
+use Rattle.tables.specs.Follows.{Shows, answer_by, answer_as}
+use Rattle.tables.proofs.Clauses.{answer_told}
+use Rattle.finishing.specs.Checks.{unless_refused}
+use Rattle.finishing.specs.Follows.{FollowsFinished}
 use Rattle.tables.proofs.Beyond.{calls_keep_beyond}
 use Rattle.tables.proofs.FollowsSetting.{new_shows}
 use Rattle.tables.specs.Calls.{Outcome, outcome, opened_counts, opened_tables, opening, enforce_constraint_tests, with_constraint, with_constraint_lists, constraining}
@@ -47,14 +50,29 @@ refused_alike {S} {X} {Y} (Some r) a b accepted before refusal t is =
     let same : r ≡ refusal = cc in
     λ i. record { answer = Err (same i); state = (is i).state }
 
-module _ {V : Type 0} (m : Model V) (s : State V) where
-  -- a check that names none says that all hold
-  pub none_satisfies : (answer : Option ℕ) → Names m s answer → Satisfies m s (is_none answer)
-  none_satisfies None h = (λ _. h, λ _. refl)
-  none_satisfies (Some j) h = (
-    λ e. absurd (true≢false (sym e)),
-    λ all. let x = account_of s in let same = one_answer (Holds m) (constraints_kept m x (constraints x.given)) (Some j) None h all in let never : ⊥ = cc in absurd never,
-  )
+-- a check that names none says that all hold
+pub none_satisfies : {V : Type 0} (m : Model V) (rs : List (Row m.ring.Member)) (answer : Option ℕ) → FirstFailing (Holds m) rs answer
+    → (is_none answer ≡ true) ↔ AllByRecursion (Holds m) rs
+none_satisfies m rs None h = (λ _. h, λ _. refl)
+none_satisfies m rs (Some j) h = (
+  λ e. absurd (true≢false (sym e)),
+  λ all. let same = one_answer (Holds m) rs (Some j) None h all in let never : ⊥ = cc in absurd never,
+)
+
+-- calls on a finished circuit: what holds of an accepted answer, a refusal alike, and what follows from the account
+pub when_answered : {X : Type 0} (o : Option Told) (a : X) (r : Result X Refusal) (P : X → Type 0) → (o ≡ None → P a) → unless_refused o a ≡ answered r → IfOk r P
+when_answered o a (Err e) P h is = tt
+when_answered None a (Ok x) P h is = let same : a ≡ x = cc in subst P same (h refl)
+when_answered (Some refusal) a (Ok x) P h is = let never : ⊥ = cc in absurd never
+
+pub answered_alike : {X Y : Type 0} (o : Option Told) (a : X) (b : Y) (refusal : Told) → unless_refused o a ≡ Err refusal → unless_refused o b ≡ Err refusal
+answered_alike None a b refusal is = let never : ⊥ = cc in absurd never
+answered_alike (Some r) a b refusal is = let same : r ≡ refusal = cc in ap Err same
+
+pub follows_answered : {V X : Type 0} (m : Model V) (call : Call V) (f : X → Answer V) (a : Result X Told) (r : Result X Refusal) (s : State V)
+    → a ≡ answered r → FollowsFinished m call (answer_as f a) s → FollowsFinished m call (answer_by f r) s
+follows_answered m call f a r s is h =
+    subst (λ z. FollowsFinished m call z s) (answer_told f r) (subst (λ z. FollowsFinished m call (answer_as f z) s) is h)
 
 -- what opening leaves
 module _ {V : Type 0} (m : Model V) (h : Held V) (c : Counts) (left : Held V) where

@@ -1,1 +1,2 @@
 pub mod Circuit
+pub mod Finished

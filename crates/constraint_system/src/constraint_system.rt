@@ -1,12 +1,16 @@
 // The open circuit.
 ghost use Rattle.std.specs.Prelude.{◌≡◌, ◌≤◌, length, IfOk};
-ghost use Rattle.account.specs.Account.{opened};
+ghost use Rattle.account.specs.Account.{KeepsMatrices, opened};
 ghost use Rattle.account.specs.Calls as calls;
 ghost use Rattle.tables.specs.Held.{held, SamePlaces, KeepsBeyond};
 ghost use Rattle.tables.specs.Calls.{is_setup, keeps_matrices, setting_mode, setting_goal, opening, naming_instance, naming_witness, naming_list, constraining, checking, satisfying, asking};
 ghost use Rattle.tables.specs.Follows.{Shows, answer_by, Follows};
 ghost use Rattle.tables.specs.Laws.{Names, Satisfies, Values};
+ghost use Rattle.finishing.specs.Finalising.{Finalises};
+ghost use Rattle.finishing.specs.Follows.{FollowsFinalising};
+ghost use Rattle.finishing.specs.Laws.{Admits};
 
+use crate::finished_system::FinishedSystem;
 use account::{OptimizationGoal, SynthesisMode};
 use field::Field;
 use tables::{Counts, Tables};
@@ -21,6 +25,7 @@ pub struct ConstraintSystem {
 
 impl ConstraintSystem {
     ghost use Rattle.constraint_system.specs.Circuit.{numbers, circuit, opened_numbers, left};
+    ghost use Rattle.constraint_system.specs.Finished.{finished, refusal_of, finalized, answer_of};
 
     // A circuit with no variable but the constant one, no combination and no constraint, whatever the tables hold.
     pub fn new<F: Field>(tables: &mut Tables<'_, F>) -> Result<ConstraintSystem, Refusal>
@@ -193,5 +198,22 @@ impl ConstraintSystem {
         ensures account { Follows F.model (calls.assigned_value (length work.old) variable) (answer_by calls.assigned result) (circuit self.now tables.now) (circuit self.now tables.now) }
     {
         circuits::assigned_value(&self.counts, tables, variable, work)
+    }
+
+    // Rewrites all lists without symbols, as the goal says, and gives the finished circuit for this one. A refusal hands the circuit back.
+    pub fn finalize<F: Field>(
+        self,
+        tables: &mut Tables<'_, F>,
+    ) -> Result<FinishedSystem, (ConstraintSystem, Refusal)>
+        ensures places { SamePlaces tables.old tables.new }
+        ensures does { Finalises F.model (circuit self tables.old) (refusal_of result) (finalized result tables.new) }
+        ensures beyond { KeepsBeyond (held tables.old) (held tables.new) }
+        ensures admits { IfOk result (λ f. KeepsMatrices (numbers self).mode → Admits F.model (circuit self tables.old) (finished f tables.new)) }
+        ensures account { FollowsFinalising F.model (answer_of result) (circuit self tables.old) (finalized result tables.new) }
+    {
+        match finalising::finalize(self.counts, tables) {
+            Ok(counts) => Ok(FinishedSystem { counts }),
+            Err(refusal) => Err((self, refusal)),
+        }
     }
 }

@@ -20,6 +20,7 @@ use Rattle.variables.specs.declared.Term.{Term}
 use Rattle.variables.specs.Terms.{term, once, opposite}
 use Rattle.variables.specs.Worth.{worth}
 use Rattle.account.specs.Rows.{Row, each, Holds, FailsFirst, FirstFailing, constraints}
+use Rattle.account.specs.declared.OptimizationGoal.{OptimizationGoal}
 use Rattle.account.specs.Account.{Account, KeepsMatrices, opened, constraints_kept}
 use Rattle.account.specs.Calls.{new_lc, which_is_unsatisfied, Answer, Event, accepted_constraints, accepted_witnesses}
 use Rattle.account.specs.Refusals.{Lengths, when, opening_refusal}
@@ -30,10 +31,10 @@ use Rattle.tables.specs.Laws.{Names}
 use Rattle.grading.specs.declared.Wall.{Wall}
 use Rattle.grading.specs.declared.Claim.{Claim}
 use Rattle.grading.specs.Scripts.{Script, done, asks, played, Plays, unless_refused, unless}
-use Rattle.grading.specs.Grades.{windows_of, handed, naming, constraining, all_windows, grading, reading_at, loss_at, square_at, squares_to, RightSquare, RightSum, Judged, judging}
+use Rattle.grading.specs.Grades.{windows_of, handed, naming, constraining, all_windows, grading, reading_at, loss_at, square_at, squares_to, RightSquare, RightSum, Judged, judging, grading_towards, graded}
 use Rattle.grading.proofs.Windows.{from_square, from_loss, from_sum, from_total, from_readings, from_grade}
 use Rattle.grading.proofs.Runs.{Open}
-use Rattle.grading.proofs.Steps.{log, end, promised, proves, at, tail, At, list_step, instance_step, witness_step, constraint_step}
+use Rattle.grading.proofs.Steps.{log, end, promised, proves, at, tail, At, goal_step, list_step, instance_step, witness_step, constraint_step}
 
 -- what was handed in, where it was accepted
 pub handed_is : {V : Type 0} (o : Option V) (v : V) → handed o ≡ Ok v → o ≡ Some v
@@ -142,14 +143,8 @@ module _ {V : Type 0} {m : Model V} (keeps : Keeps m) where
           sum_wrong = λ e r. w.last e (to r);
         }
 
-  -- The calls of a grade on a circuit just opened, none of them refused.
-  module _ (k : Lengths) (wall : Wall V) (claim : Claim V) where
-    abbrev whole : Script V
-    whole = grading m 0 wall claim
-
-    opens : Open whole
-    opens = grading_open m 0 wall claim
-
+  -- A script on a circuit just opened that comes to the calls of a grade, none of them refused.
+  module _ (k : Lengths) (wall : Wall V) (claim : Claim V) (whole : Script V) (opens : Open whole) where
     abbrev squares : List V
     squares = claim.squares.now
 
@@ -245,25 +240,45 @@ module _ {V : Type 0} {m : Model V} (keeps : Keeps m) where
           }
 
     -- An answer that names the first constraint that fails names the first claim that is wrong.
-    pub judges : let p = played m k (grading m 0 wall claim) (opened m) in p.answer ≡ Ok tt → let x = p.account in (answer : Option ℕ)
-        → FirstFailing (Holds m) (constraints_kept m x (constraints x.given)) answer → Judged m wall claim.squares.now claim.grade answer
-    judges ok answer h =
+    judges_from : (before : List (Event V)) → Now (grading m 0 wall claim) before → length (accepted_witnesses before) ≡ 0
+        → accepted_constraints (log keeps k whole opens) ≡ accepted_constraints (left (grading m 0 wall claim) before)
+        → let x = end keeps k whole opens in (answer : Option ℕ) → FirstFailing (Holds m) (constraints_kept m x (constraints x.given)) answer
+        → Judged m wall claim.squares.now claim.grade answer
+    judges_from before now no_witness no_row answer h =
         let x = end keeps k whole opens in
-        let s = instance_step keeps k whole opens (λ grade. from_grade m 0 wall squares grade (λ _. done)) [] claim.grade (record { splits = refl; ok = ok }) in
+        let s = instance_step keeps k whole opens (λ grade. from_grade m 0 wall squares grade (λ _. done)) before claim.grade now in
         let grade = s.variable in
         let named = named_all (from_readings m 0 (windows_of wall) wall squares grade (λ _. done)) wall.readings.now s.past s.next in
-        let stand = λ (i : ℕ) (lt : i < length wall.readings.now). ap (λ n. w (Witness (n + i))) (sym s.count) ∙ named.stand i lt in
+        let stand = λ (i : ℕ) (lt : i < length wall.readings.now). ap (λ n. w (Witness (n + i))) (sym (s.count ∙ no_witness)) ∙ named.stand i lt in
         let e = all_ended stand (windows_of wall) 0 Zero (λ total. from_total m grade total (λ _. done)) named.past named.next refl (omega arith) in
         let last = constraint_step keeps k whole opens (λ _. done) e.past (once m e.variable ∷ []) (once m One ∷ []) (once m grade ∷ []) e.next in
         let row : Row Member = record { a = w e.variable; b = one; c = w grade } in
         let rows : worths_of (log keeps k whole opens) ≡ claim_rows wall squares 0 (windows_of wall) ++ row ∷ []
-        = ap (map (each (worth m w))) (s.rows_are ∙ named.rows_are) ∙ e.rows_are
+        = ap (map (each (worth m w))) (no_row ∙ s.rows_are ∙ named.rows_are) ∙ e.rows_are
         ∙ ap (λ rs. claim_rows wall squares 0 (windows_of wall) ++ rs) (ap (map (each (worth m w))) last.rows_are ∙ ap (λ (r : Row Member). r ∷ []) (row_worth w e.variable One grade)) in
         let written : constraints x.given ≡ accepted_constraints (log keeps k whole opens) = (promised keeps k whole opens).as_written (subst KeepsMatrices (sym (proves keeps k whole opens)) tt) in
         let same : constraints_kept m x (constraints x.given) ≡ claim_rows wall squares 0 (windows_of wall) ++ row ∷ [] = ap (constraints_kept m x) written ∙ rows in
         let many : 0 + windows_of wall ≡ windows_of wall = omega arith in
         let sum : mul (w e.variable) one ≡ squares_to m squares (windows_of wall) = keeps.laws.times_one (w e.variable) ∙ e.is ∙ ap (squares_to m squares) many in
         judged wall squares claim.grade row (λ r. sum ∙ r ∙ sym s.means) (λ r. sym sum ∙ r ∙ s.means) answer (subst (λ rs. FirstFailing (Holds m) rs answer) same h)
+
+  module _ (k : Lengths) (wall : Wall V) (claim : Claim V) where
+    -- .. where these calls are all, and where a goal is set before them
+    pub judges : let p = played m k (grading m 0 wall claim) (opened m) in p.answer ≡ Ok tt → let x = p.account in (answer : Option ℕ)
+        → FirstFailing (Holds m) (constraints_kept m x (constraints x.given)) answer → Judged m wall claim.squares.now claim.grade answer
+    judges ok answer h =
+        judges_from k wall claim (grading m 0 wall claim) (grading_open m 0 wall claim) [] (record { splits = refl; ok = ok }) refl refl answer h
+
+    pub towards_open : (goal : OptimizationGoal) → Open (grading_towards m goal wall claim)
+    towards_open goal = (tt, λ _. grading_open m 0 wall claim)
+
+    pub judges_towards : (goal : OptimizationGoal) → let p = graded m k goal wall claim in p.answer ≡ Ok tt → let x = p.account in (answer : Option ℕ)
+        → FirstFailing (Holds m) (constraints_kept m x (constraints x.given)) answer → Judged m wall claim.squares.now claim.grade answer
+    judges_towards goal ok answer h =
+        let whole = grading_towards m goal wall claim in
+        let opens = towards_open goal in
+        let s = goal_step keeps k whole opens (λ _. grading m 0 wall claim) [] goal (record { splits = refl; ok = ok }) in
+        judges_from k wall claim whole opens s.past s.next s.count s.rows_are answer h
 
 -- what follows from what a call answers
 pub ok_more : {X E : Type 0} (P Q : X → Type 0) (r : Result X E) → IfOk r P → ((x : X) → P x → Q x) → IfOk r Q
@@ -278,6 +293,12 @@ module _ {V : Type 0} {m : Model V} (keeps : Keeps m) (wall : Wall V) (claim : C
       let none : s.counts.witnesses ≡ 0 = ap (λ (x : Account V). x.witnesses.count) shows.account in
       let p = subst (λ n. let p = played m (lengths s.tables) (grading m n wall claim) (opened m) in (Ok tt ≡ p.answer) × Shows t p.account) none (plays.1 (opened m) shows) in
       judges keeps (lengths s.tables) wall claim (sym p.0) answer (subst (λ (x : Account V). FirstFailing (Holds m) (constraints_kept m x (constraints x.given)) answer) p.1.account names)
+
+module _ {V : Type 0} (m : Model V) (h : Held V) where
+  -- an opening that is not refused
+  pub was_opened : (o : Option Told) (c : Counts) (t : Held V) → outcome o opened_counts (opened_tables m h) h ≡ record { answer = Ok c; state = t } → (o ≡ None) × (lengths t ≡ lengths h)
+  was_opened None c t e = (refl, ap lengths (sym (ap (λ (z : Outcome (Held V) Counts). z.state) e)) ∙ (λ i. record { terms = length h.terms; index = length h.index; instances = length-set h.instances 0 m.one i; witnesses = length h.witnesses }))
+  was_opened (Some f) c t e = let answer = ap (λ (z : Outcome (Held V) Counts). z.answer) e in let never : ⊥ = cc in absurd never
 
 module _ {V : Type 0} (m : Model V) (h : Held V) (wall : Wall V) (claim : Claim V) (spare work : ℕ) where
   -- what is answered once the circuit is opened, and once there is room
@@ -295,15 +316,11 @@ module _ {V : Type 0} (m : Model V) (h : Held V) (wall : Wall V) (claim : Claim 
   pub judging_unopened : (r : Told) (t : Held V) → opening m h ≡ record { answer = Err r; state = t } → judging m (lengths h) spare work wall claim ≡ Err r
   judging_unopened r t e = not_opened (opening_refusal (lengths h)) r t e
 
-  was_opened : (o : Option Told) (c : Counts) (t : Held V) → outcome o opened_counts (opened_tables m h) h ≡ record { answer = Ok c; state = t } → (o ≡ None) × (lengths t ≡ lengths h)
-  was_opened None c t e = (refl, ap lengths (sym (ap (λ (z : Outcome (Held V) Counts). z.state) e)) ∙ (λ i. record { terms = length h.terms; index = length h.index; instances = length-set h.instances 0 m.one i; witnesses = length h.witnesses }))
-  was_opened (Some f) c t e = let answer = ap (λ (z : Outcome (Held V) Counts). z.answer) e in let never : ⊥ = cc in absurd never
-
   -- it is not
   module _ (s t : State V) (opens : opening m h ≡ record { answer = Ok s.counts; state = s.tables }) (shows : Shows s (opened m)) where
     in_room : (a : Result (Answer V) Told) → (spare < 3 → Err (number_alone 19) ≡ a) → (3 ≤ spare → checked ≡ a) → judging m (lengths h) spare work wall claim ≡ a
     in_room a short long =
-        ap opened_for (was_opened (opening_refusal (lengths h)) s.counts s.tables opens).0
+        ap opened_for (was_opened m h (opening_refusal (lengths h)) s.counts s.tables opens).0
         ∙ cond_both (lacks 3 spare) (Some (number_alone 19)) None (λ o. unless o checked ≡ a) (λ e. short (ltb-true spare 3 e)) (λ e. long (ltb-false spare 3 e))
 
     -- what the calls come to
@@ -311,7 +328,7 @@ module _ {V : Type 0} (m : Model V) (h : Held V) (wall : Wall V) (claim : Claim 
     unfolding Plays
     played_so r plays =
         let none : s.counts.witnesses ≡ 0 = ap (λ (x : Account V). x.witnesses.count) shows.account in
-        let long = (was_opened (opening_refusal (lengths h)) s.counts s.tables opens).1 in
+        let long = (was_opened m h (opening_refusal (lengths h)) s.counts s.tables opens).1 in
         subst (λ k. let p = played m k (grading m 0 wall claim) (opened m) in (r ≡ p.answer) × Shows t p.account) long
         (subst (λ n. let p = played m (lengths s.tables) (grading m n wall claim) (opened m) in (r ≡ p.answer) × Shows t p.account) none (plays.1 (opened m) shows))
 
@@ -328,7 +345,7 @@ module _ {V : Type 0} (m : Model V) (h : Held V) (wall : Wall V) (claim : Claim 
     judging_answered a le plays follows =
         let p = played_so (Ok tt) plays in
         let x = (played m (lengths h) (grading m 0 wall claim) (opened m)).account in
-        let long : lengths t.tables ≡ lengths h = plays.0 ∙ (was_opened (opening_refusal (lengths h)) s.counts s.tables opens).1 in
+        let long : lengths t.tables ≡ lengths h = plays.0 ∙ (was_opened m h (opening_refusal (lengths h)) s.counts s.tables opens).1 in
         in_room a (λ lt. absurd (omega arith))
         (λ _. ap (λ r. unless_refused r (due m (lengths h) x (which_is_unsatisfied work))) (sym p.0)
         ∙ ap (λ k. due m k x (which_is_unsatisfied work)) (sym long) ∙ sym (follows x p.1).0)

@@ -5,4 +5,5 @@ pub mod Windows
 pub mod Runs
 pub mod Steps
 pub mod Judges
+pub mod Finals
 pub mod Honest

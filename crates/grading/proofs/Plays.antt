@@ -65,7 +65,7 @@ module _ {V : Type 0} (m : Model V) where
         (q.0, q.1, p.2 ∙ q.2),
   )
 
-  leads_plays : (s t u : State V) (a b : Script V) (answer : Result (Unit {0}) Told) → Leads m s a t b → Plays m b answer t u → Plays m a answer s u
+  pub leads_plays : (s t u : State V) (a b : Script V) (answer : Result (Unit {0}) Told) → Leads m s a t b → Plays m b answer t u → Plays m a answer s u
   unfolding Leads Plays
   leads_plays s t u a b answer h k = (
     k.0 ∙ h.0,

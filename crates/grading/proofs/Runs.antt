@@ -3,15 +3,16 @@ use Rattle.std.proofs.Common.{◌≡◌, true, cond, [], ◌∷◌, None, Ok, Er
 use Rattle.field.specs.Laws.{Model}
 use Rattle.variables.specs.declared.Variable.{Variable}
 use Rattle.account.specs.Account.{Account, is_open, builds, changed}
-use Rattle.account.specs.Calls.{Call, new_input_variable, new_witness_variable, new_lc, enforce_constraint, Event, effect_of, after, after_all}
+use Rattle.account.specs.Calls.{Call, set_optimization_goal, new_input_variable, new_witness_variable, new_lc, enforce_constraint, Event, effect_of, after, after_all}
 use Rattle.account.specs.Refusals.{Lengths}
 use Rattle.account.specs.Run.{due, Lawful, Run}
 use Rattle.account.proofs.Calls.{calls_run}
 use Rattle.grading.specs.Scripts.{Script, done, asks, variable_in, goes_on, log_until}
 
 module _ {V : Type 0} where
-  -- calls that name or constrain
+  -- calls that set the goal, name or constrain
   abbrev pub OpenCall : Call V → Type 0
+  OpenCall (set_optimization_goal goal) = Unit {0}
   OpenCall (new_input_variable handed) = Unit {0}
   OpenCall (new_witness_variable handed) = Unit {0}
   OpenCall (new_lc ts) = Unit {0}
@@ -23,6 +24,7 @@ module _ {V : Type 0} where
   Open (asks call rest) = OpenCall call × ((v : Variable) → Open (rest v))
 
   open_builds : (x : Account V) (call : Call V) → OpenCall call → x.finished ≡ None → builds x (effect_of call) ≡ true
+  open_builds x (set_optimization_goal goal) h o = ap is_open o
   open_builds x (new_input_variable handed) h o = ap is_open o
   open_builds x (new_witness_variable handed) h o = ap is_open o
   open_builds x (new_lc ts) h o = ap is_open o
@@ -32,6 +34,7 @@ module _ {V : Type 0} where
   module _ (m : Model V) where
     -- they leave a circuit open, and its mode
     stays : (x : Account V) (call : Call V) → OpenCall call → ((changed m x (effect_of call)).finished ≡ x.finished) × ((changed m x (effect_of call)).mode ≡ x.mode)
+    stays x (set_optimization_goal goal) h = (refl, refl)
     stays x (new_input_variable handed) h = (refl, refl)
     stays x (new_witness_variable handed) h = (refl, refl)
     stays x (new_lc ts) h = (refl, refl)

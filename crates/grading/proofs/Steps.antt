@@ -14,11 +14,12 @@ use Rattle.variables.specs.Refusals.{Told}
 use Rattle.variables.specs.Worth.{value, worth}
 use Rattle.account.specs.declared.Mark.TheVariants.{Plain}
 use Rattle.account.specs.declared.SynthesisMode.TheVariants.{Prove}
+use Rattle.account.specs.declared.OptimizationGoal.{OptimizationGoal}
 use Rattle.account.specs.Given.{Given, lists, marked}
 use Rattle.account.specs.Worths.{worths}
 use Rattle.account.specs.Rows.{Row}
 use Rattle.account.specs.Account.{Account, KeepsValues, opened, kept_of}
-use Rattle.account.specs.Calls.{Call, new_input_variable, new_witness_variable, new_lc, enforce_constraint, Answer, Event, accepted, effect_of, if_accepted, accepted_all, witness_in, accepted_constraints, accepted_witnesses, after, after_all, account}
+use Rattle.account.specs.Calls.{Call, set_optimization_goal, new_input_variable, new_witness_variable, new_lc, enforce_constraint, Answer, Event, accepted, effect_of, if_accepted, accepted_all, witness_in, accepted_constraints, accepted_witnesses, after, after_all, account}
 use Rattle.account.specs.Refusals.{Lengths}
 use Rattle.account.specs.Run.{due}
 use Rattle.account.specs.Promise.{Accepted, Promised}
@@ -133,6 +134,20 @@ module _ {V : Type 0} where
       pub count : length (accepted_witnesses past) ≡ witnesses
 
     module _ (rest : Variable → Script V) (past : List (Event V)) where
+      pub goal_step : (goal : OptimizationGoal) → At (asks (set_optimization_goal goal) rest) past
+          → Next rest (λ _. Unit {0}) [] (tail (asks (set_optimization_goal goal) rest) past) (length (accepted_witnesses past))
+      goal_step goal h =
+          let call = set_optimization_goal goal in
+          let s = stepped call rest past h in
+          record {
+            variable = variable_in s.answer;
+            past = past ++ accepted call s.answer ∷ [];
+            means = tt;
+            next = s.next;
+            rows_are = ap accepted_constraints s.tail_is;
+            count = all_append witness_in past (accepted call s.answer) ∙ omega arith;
+          }
+
       pub list_step : (ts : List (Term V)) → At (asks (new_lc ts) rest) past
           → Next rest (λ v. at v ≡ worth m at ts) [] (tail (asks (new_lc ts) rest) past) (length (accepted_witnesses past))
       list_step ts h =

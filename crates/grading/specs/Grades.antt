@@ -7,15 +7,18 @@ use Rattle.variables.specs.declared.SynthesisError.TheVariants.{AssignmentMissin
 use Rattle.variables.specs.declared.Variable.{Variable}
 use Rattle.variables.specs.declared.Variable.TheVariants.{Zero, One, Witness}
 use Rattle.variables.specs.Terms.{term, once, opposite}
-use Rattle.variables.specs.Refusals.{Told}
+use Rattle.variables.specs.declared.Refusal.{Refusal}
+use Rattle.variables.specs.Refusals.{Told, told}
 use Rattle.account.specs.Finish.{lacks}
-use Rattle.account.specs.Account.{opened}
-use Rattle.account.specs.Calls.{new_input_variable, new_witness_variable, new_lc, enforce_constraint, which_is_unsatisfied, Answer}
+use Rattle.account.specs.declared.OptimizationGoal.{OptimizationGoal}
+use Rattle.account.specs.Account.{Account, opened}
+use Rattle.account.specs.Calls.{set_optimization_goal, new_input_variable, new_witness_variable, new_lc, enforce_constraint, which_is_unsatisfied, finalize, Answer, unsatisfied, Event, after}
 use Rattle.account.specs.Refusals.{Lengths, when, opening_refusal}
 use Rattle.account.specs.Run.{due}
 use Rattle.grading.specs.declared.Wall.{Wall}
 use Rattle.grading.specs.declared.Claim.{Claim}
-use Rattle.grading.specs.Scripts.{Script, done, asks, unless_refused, unless, played}
+use Rattle.grading.specs.declared.Finalized.{Finalized}
+use Rattle.grading.specs.Scripts.{Script, done, asks, unless_refused, unless, both, Played, played}
 
 -- how many windows of three readings a wall has
 abbrev pub windows_of : {V : Type 0} → Wall V → ℕ
@@ -25,6 +28,11 @@ windows_of wall = length wall.readings.now - 2
 abbrev pub handed : {V : Type 0} → Option V → Result V SynthesisError
 handed (Some square) = Ok square
 handed None = Err AssignmentMissing
+
+-- what two checks answered, before finalising and after it, or the refusal
+abbrev pub both_checks : {V : Type 0} → Result Finalized Refusal → Result (Answer V × Answer V) Told
+both_checks (Ok f) = Ok (unsatisfied f.before, unsatisfied f.after)
+both_checks (Err e) = Err (told e)
 
 module _ {V : Type 0} (m : Model V) where
   open m.ring use {Member, zero, one, ◌⊕◌, ◌⊗◌, neg}
@@ -68,6 +76,38 @@ module _ {V : Type 0} (m : Model V) where
   judging k spare work wall claim =
       let p = played m k (grading 0 wall claim) (opened m) in
       unless (opening_refusal k) (unless (when (lacks 3 spare) 19) (unless_refused p.answer (due m k p.account (which_is_unsatisfied work))))
+
+  -- The same towards a goal, which is set before all else.
+  abbrev pub grading_towards : OptimizationGoal → Wall V → Claim V → Script V
+  grading_towards goal wall claim = asks (set_optimization_goal goal) (λ _. grading 0 wall claim)
+
+  -- what comes of it in a circuit just opened
+  abbrev pub graded : Lengths → OptimizationGoal → Wall V → Claim V → Played V
+  graded k goal wall claim = played m k (grading_towards goal wall claim) (opened m)
+
+  -- whether it is refused in a circuit that is opened over tables of these lengths, by way of so many spare places
+  abbrev pub constraining_towards : Lengths → (spare : ℕ) → OptimizationGoal → Wall V → Claim V → Result (Unit {0}) Told
+  constraining_towards k spare goal wall claim =
+      unless (opening_refusal k) (unless (when (lacks 3 spare) 19) (graded k goal wall claim).answer)
+
+  -- finalising, as it is due to an account, and the account after it
+  abbrev pub finalizing : Lengths → Account V → Event V
+  finalizing k x = record { call = finalize; answer = due m k x finalize }
+
+  abbrev pub finalized_account : Lengths → OptimizationGoal → Wall V → Claim V → Account V
+  finalized_account k goal wall claim = let x = (graded k goal wall claim).account in after m x (finalizing k x)
+
+  -- what is due to a check, to finalising, and to the check after it: the first refusal, or what both checks answer
+  abbrev pub checking_twice : Lengths → (work : ℕ) → Account V → Result (Answer V × Answer V) Told
+  checking_twice k work x =
+      let check = which_is_unsatisfied work in
+      let e = finalizing k x in
+      both (due m k x check) (unless_refused e.answer (due m k (after m x e) check))
+
+  -- what two checks of a claim answer, before finalising and after it
+  abbrev pub judging_finalized : Lengths → (spare work : ℕ) → OptimizationGoal → Wall V → Claim V → Result (Answer V × Answer V) Told
+  judging_finalized k spare work goal wall claim =
+      unless_refused (constraining_towards k spare goal wall claim) (checking_twice k work (graded k goal wall claim).account)
 
   -- What a grade is.
 

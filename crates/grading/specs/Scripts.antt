@@ -36,6 +36,17 @@ abbrev pub unless : {Y : Type 0} → Option Told → Result Y Told → Result Y 
 unless None rest = rest
 unless (Some refusal) rest = Err refusal
 
+-- both answers, or the first refusal
+abbrev pub both : {X Y : Type 0} → Result X Told → Result Y Told → Result (X × Y) Told
+both (Ok x) (Ok y) = Ok (x, y)
+both (Ok x) (Err refusal) = Err refusal
+both (Err refusal) other = Err refusal
+
+-- what was returned, with no more of it than whether it was refused, and how
+abbrev pub made_by : {X : Type 0} → Result X Refusal → Result (Unit {0}) Told
+made_by (Ok x) = Ok tt
+made_by (Err e) = Err (told e)
+
 -- what a log comes to: its refusal, if it has one
 abbrev pub outcome_of : {V : Type 0} → List (Event V) → Result (Unit {0}) Told
 outcome_of [] = Ok tt

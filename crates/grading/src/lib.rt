@@ -8,12 +8,15 @@ ghost use Rattle.variables.specs.Refusals.{answered, refused};
 ghost use Rattle.variables.specs.Terms.{once, term, opposite};
 ghost use Rattle.account.specs.Calls.{new_lc, enforce_constraint, unsatisfied};
 ghost use Rattle.constraint_system.specs.Circuit.{numbers, circuit as circuit_over};
+ghost use Rattle.constraint_system.specs.Finished.{finished};
 ghost use Rattle.tables.specs.Held.{held, lengths, state, SamePlaces};
-ghost use Rattle.tables.specs.Follows.{answer_by};
-ghost use Rattle.grading.specs.Scripts.{asks, Plays, Continues};
-ghost use Rattle.grading.specs.Grades.{windows_of, handed, naming, constraining, all_windows, grading, loss_at, Honest, Judged, judging, worked_loss, Worked};
+ghost use Rattle.tables.specs.Follows.{Shows, answer_by};
+ghost use Rattle.finishing.specs.Follows.{Presents};
+ghost use Rattle.grading.specs.Scripts.{asks, made_by, Plays, Continues};
+ghost use Rattle.grading.specs.Grades.{windows_of, handed, naming, constraining, all_windows, grading, loss_at, Honest, Judged, judging, graded, constraining_towards, judging_finalized, finalized_account, both_checks, worked_loss, Worked};
 
-use constraint_system::ConstraintSystem;
+use account::OptimizationGoal;
+use constraint_system::{ConstraintSystem, FinishedSystem};
 use field::Field;
 use tables::Tables;
 use variables::{Refusal, SynthesisError, Term, Variable};
@@ -259,4 +262,61 @@ pub fn judge<F: Field>(
     let mut circuit = ConstraintSystem::new(tables)?;
     constrain_grade(&mut circuit, tables, wall, claim, spare)?;
     circuit.which_is_unsatisfied(tables, work)
+}
+
+// What a check says of a claim before finalising and after it, with the finished circuit.
+#[derive(Drop, Debug)]
+pub struct Finalized {
+    pub before: Option<usize>,
+    pub after: Option<usize>,
+    pub circuit: FinishedSystem,
+}
+
+// Opens a circuit over the lent tables, sets its goal, and constrains a claim in it.
+fn open_constrained<F: Field>(
+    tables: &mut Tables<'_, F>,
+    goal: OptimizationGoal,
+    wall: &Wall<F>,
+    claim: &Claim<F>,
+    spare: &mut [Term<F>],
+) -> Result<ConstraintSystem, Refusal>
+    ensures places { SamePlaces tables.old tables.new }
+    ensures answers { constraining_towards F.model (lengths (held tables.old)) (length spare.old) goal wall.now claim.now ≡ made_by result }
+    ensures long { IfOk result (λ _. lengths (held tables.new) ≡ lengths (held tables.old)) }
+    ensures account { IfOk result (λ c. Shows (circuit_over c tables.new) (graded F.model (lengths (held tables.old)) goal wall.now claim.now).account) }
+{
+    let mut open = ConstraintSystem::new(tables)?;
+    open.set_optimization_goal(goal)?;
+    constrain_grade(&mut open, tables, wall, claim, spare)?;
+    Ok(open)
+}
+
+// Checks a claim in a circuit of its own over the lent tables, finalises the circuit towards the goal, and checks it again: both checks say
+// the same. The tables then hold what finalising made. Spare places and work table are scratch: what they hold afterwards is left open.
+pub fn judge_finalized<F: Field>(
+    tables: &mut Tables<'_, F>,
+    goal: OptimizationGoal,
+    wall: &Wall<F>,
+    claim: &Claim<F>,
+    spare: &mut [Term<F>],
+    work: &mut [Option<F>],
+) -> Result<Finalized, Refusal>
+    ensures places { SamePlaces tables.old tables.new }
+    ensures answers { judging_finalized F.model (lengths (held tables.old)) (length spare.old) (length work.old) goal wall.now claim.now ≡ both_checks result }
+    ensures judged { IfOk result (λ f. Judged F.model wall.now claim.now.squares.now claim.now.grade f.before × (f.after ≡ f.before)) }
+    ensures shows { IfOk result (λ f. Presents (finished f.circuit tables.new) (finalized_account F.model (lengths (held tables.old)) goal wall.now claim.now)) }
+{
+    let open = open_constrained(tables, goal, wall, claim, spare)?;
+    let before = open.which_is_unsatisfied(tables, work)?;
+    match open.finalize(tables) {
+        Ok(circuit) => {
+            let after = circuit.which_is_unsatisfied(tables)?;
+            Ok(Finalized {
+                before,
+                after,
+                circuit,
+            })
+        }
+        Err((_, refusal)) => Err(refusal),
+    }
 }

@@ -2,7 +2,8 @@ use Rattle.std.proofs.Common.{length, subst}
 use Rattle.std.specs.Option.{is_none}
 use Rattle.std.proofs.lemmas.Result.{err_from_is_err_and}
 use Rattle.account.specs.Refusals.{first}
-use Rattle.account.specs.Account.{failing_of}
+use Rattle.account.specs.Rows.{constraints}
+use Rattle.account.specs.Account.{constraints_kept, failing_of}
 use Rattle.tables.specs.Held.{state}
 use Rattle.tables.specs.Sound.{account_of}
 use Rattle.tables.specs.Calls.{which_is_unsatisfied_tests, work_of}
@@ -21,5 +22,8 @@ returns-in_err-first-clause-does g c =
 
 pub returns-clause-all : goal.returns-clause-all
 returns-clause-all g c =
+    let m = g.F.Field.model in
     let s = state c.args.self.now.counts c.args.tables.now in
-    subst (Satisfies g.F.Field.model s) (none_told c.in_ok-first.first c.is_none.result c.is_none.ensures) (none_satisfies g.F.Field.model s c.in_ok-first.first c.in_ok-first.ensures.names)
+    let x = account_of s in
+    subst (Satisfies m s) (none_told c.in_ok-first.first c.is_none.result c.is_none.ensures)
+    (none_satisfies m (constraints_kept m x (constraints x.given)) c.in_ok-first.first c.in_ok-first.ensures.names)

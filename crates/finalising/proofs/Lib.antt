@@ -1,0 +1,12 @@
+pub mod Lies
+pub mod RowsWorked
+pub mod Begins
+pub mod Parts
+pub mod Ends
+pub mod Counts
+pub mod Expands
+pub mod Outlined
+pub mod Takes
+pub mod Leaves
+pub mod Keeps
+pub mod Loops

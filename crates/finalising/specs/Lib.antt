@@ -1,0 +1,3 @@
+pub mod Uses
+pub mod Lent
+pub mod Finishing

@@ -1,0 +1,13 @@
+pub mod Lays
+pub mod Adds
+pub mod Turns
+pub mod Bridges
+pub mod Parts
+pub mod Decodes
+pub mod Admits
+pub mod Leaves
+pub mod FollowsFinalising
+pub mod SoundWhen
+pub mod RowChecks
+pub mod VariableQuestions
+pub mod AccountCalls
