@@ -279,7 +279,8 @@ fn boundary(to: &mut Operations, field: FieldName, random: &mut Random) {
     }
 }
 
-fn number(random: &mut Random, field: FieldName) -> u64 {
+/// A number of the field, often one at an end of it.
+pub fn number(random: &mut Random, field: FieldName) -> u64 {
     let last = greatest(field);
     match random.below(10) {
         0 => 0,

@@ -1,6 +1,7 @@
-//! Runs operations on lists of terms through the original Rust and through
-//! another program, and compares the answers.
+//! Runs operations on lists of terms, and whole circuits, through the original
+//! Rust and through another program, and compares the answers.
 
+pub mod circuits;
 pub mod fields;
 pub mod generate;
 pub mod original_side;

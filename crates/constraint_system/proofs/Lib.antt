@@ -1,1 +1,3 @@
 pub mod Outcomes
+pub mod Variables
+pub mod Written

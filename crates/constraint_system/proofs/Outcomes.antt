@@ -1,18 +1,15 @@
 -- What follows from what a call answers and leaves. Assumes nothing.
-use Rattle.std.proofs.Common.{◌≡◌, ℕ, ◌≤◌, Bool, true, false, not, List, Some, None, Ok, Err, Option, Result, IfOk, ◌↔◌, sym, refl, ap, ◌∙◌, subst, subst₂}
+use Rattle.std.proofs.Common.{◌≡◌, ℕ, Bool, true, false, not, List, Some, None, Ok, Err, Option, Result, IfOk, ◌↔◌, sym, refl, ap, subst, subst₂}
 use Rattle.std.specs.List.{AllByRecursion}
 use Rattle.std.specs.Option.{is_some, is_none}
 use Rattle.std.proofs.lemmas.Bool.{true≢false}
 use Rattle.field.specs.Laws.{Model}
 use Rattle.variables.specs.declared.Refusal.{Refusal}
-use Rattle.variables.specs.declared.Term.{Term}
 use Rattle.variables.specs.Refusals.{Told, answered}
-use Rattle.account.specs.declared.SynthesisMode.{SynthesisMode}
-use Rattle.account.specs.declared.SynthesisMode.TheVariants.{Setup, Prove}
 use Rattle.account.specs.Calls.{Call, Answer}
 use Rattle.account.specs.Rows.{Row, Holds, FirstFailing}
 use Rattle.account.specs.Account.{opened}
-use Rattle.account.specs.Refusals.{first, opening_refusal}
+use Rattle.account.specs.Refusals.{opening_refusal}
 use Rattle.account.proofs.Checks.{one_answer}
 use Rattle.tables.specs.declared.Counts.{Counts}
 use Rattle.tables.specs.Held.{Held, State, lengths, KeepsBeyond}
@@ -22,16 +19,23 @@ use Rattle.finishing.specs.Checks.{unless_refused}
 use Rattle.finishing.specs.Follows.{FollowsFinished}
 use Rattle.tables.proofs.Beyond.{calls_keep_beyond}
 use Rattle.tables.proofs.FollowsSetting.{new_shows}
-use Rattle.tables.specs.Calls.{Outcome, outcome, opened_counts, opened_tables, opening, enforce_constraint_tests, with_constraint, with_constraint_lists, constraining}
+use Rattle.tables.specs.Calls.{Outcome, outcome, opened_counts, opened_tables, opening}
 
--- what holds of the answer of an accepted call
+-- what holds of the answer of an accepted call and of what it leaves
+pub when_done : {S X : Type 0} (o : Option Told) (a : X) (accepted before : S) (r : Result X Refusal) (t : S) (P : X → S → Type 0)
+    → (o ≡ None → P a accepted) → outcome o a accepted before ≡ record { answer = answered r; state = t } → IfOk r (λ x. P x t)
+when_done o a accepted before (Err e) t P h is = tt
+when_done {S} {X} None a accepted before (Ok x) t P h is =
+    let answer = ap (λ (z : Outcome S X). z.answer) is in
+    let same : a ≡ x = cc in
+    subst₂ P same (ap (λ (z : Outcome S X). z.state) is) (h refl)
+when_done {S} {X} (Some refusal) a accepted before (Ok x) t P h is =
+    let answer = ap (λ (z : Outcome S X). z.answer) is in let never : ⊥ = cc in absurd never
+
+-- what holds of the answer alone
 pub when_ok : {S X : Type 0} (o : Option Told) (a : X) (accepted before : S) (r : Result X Refusal) (t : S) (P : X → Type 0) → (o ≡ None → P a)
     → outcome o a accepted before ≡ record { answer = answered r; state = t } → IfOk r P
-when_ok o a accepted before (Err e) t P h is = tt
-when_ok {S} {X} None a accepted before (Ok x) t P h is =
-    let answer = ap (λ (z : Outcome S X). z.answer) is in let same : a ≡ x = cc in subst P same (h refl)
-when_ok {S} {X} (Some refusal) a accepted before (Ok x) t P h is =
-    let answer = ap (λ (z : Outcome S X). z.answer) is in let never : ⊥ = cc in absurd never
+when_ok o a accepted before r t P h is = when_done o a accepted before r t (λ x _. P x) h is
 
 -- what a test for nothing answers, by what it says of something
 pub none_told : {X : Type 0} (o : Option X) (b : Bool) → is_some o ≡ not b → is_none o ≡ b
@@ -89,21 +93,3 @@ module _ {V : Type 0} (m : Model V) (h : Held V) (c : Counts) (left : Held V) wh
 
   pub opened_well : opening m h ≡ record { answer = Ok c; state = left } → KeepsBeyond h left × Shows (record { counts = c; tables = left }) (opened m)
   opened_well is = opened_as (opening_refusal (lengths h)) refl is
-
-module _ {V : Type 0} (s : State V) where
-  -- a constraint names no instance
-  lists_stay : (mode : SynthesisMode) (a b c : List (Term V)) → (with_constraint_lists mode a b c s).counts.instances ≡ s.counts.instances
-  lists_stay Setup a b c = refl
-  lists_stay (Prove true) a b c = refl
-  lists_stay (Prove false) a b c = refl
-
-  outcome_stays : (o : Option Told) (accepted : State V) → accepted.counts.instances ≡ s.counts.instances
-      → (outcome o (tt {0}) accepted s).state.counts.instances ≡ s.counts.instances
-  outcome_stays None accepted e = e
-  outcome_stays (Some refusal) accepted e = refl
-
-  pub one_stays : (answer : Result (Unit {0}) Told) (a b c : List (Term V)) (t : State V) → 1 ≤ s.counts.instances
-      → constraining s a b c ≡ record { answer = answer; state = t } → 1 ≤ t.counts.instances
-  one_stays answer a b c t one is =
-      subst (λ (n : ℕ). 1 ≤ n)
-      (sym (outcome_stays (first (enforce_constraint_tests s a b c)) (with_constraint a b c s) (lists_stay s.counts.mode a b c)) ∙ ap (λ (o : Outcome (State V) (Unit {0})). o.state.counts.instances) is) one

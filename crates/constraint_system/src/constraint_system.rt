@@ -1,6 +1,7 @@
 // The open circuit.
 ghost use Rattle.std.specs.Prelude.{◌≡◌, ◌≤◌, length, IfOk};
 ghost use Rattle.account.specs.Account.{KeepsMatrices, opened};
+ghost use Rattle.account.specs.Refusals.{limit};
 ghost use Rattle.account.specs.Calls as calls;
 ghost use Rattle.tables.specs.Held.{held, SamePlaces, KeepsBeyond};
 ghost use Rattle.tables.specs.Calls.{is_setup, keeps_matrices, setting_mode, setting_goal, opening, naming_instance, naming_witness, naming_list, constraining, checking, satisfying, asking};
@@ -21,6 +22,8 @@ use variables::{Refusal, SynthesisError, Term, Variable};
 pub struct ConstraintSystem {
     counts: Counts,
     ghost has_one: { 1 ≤ counts.instances },
+    ghost few_instances: { counts.instances ≤ limit },
+    ghost few_witnesses: { counts.witnesses ≤ limit },
 }
 
 impl ConstraintSystem {

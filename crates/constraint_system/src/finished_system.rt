@@ -1,27 +1,34 @@
 // The finished circuit.
-ghost use Rattle.std.specs.Prelude.{◌≡◌, ◌≤◌, ℕ, IfOk};
+ghost use Rattle.std.specs.Prelude.{◌≡◌, ◌≤◌, ℕ, length, IfOk};
 ghost use Rattle.variables.specs.Refusals.{answered};
 ghost use Rattle.account.specs.Calls as calls;
+ghost use Rattle.account.specs.Refusals.{limit};
 ghost use Rattle.tables.specs.Calls.{is_setup, keeps_matrices};
 ghost use Rattle.tables.specs.Follows.{answer_by};
 ghost use Rattle.finishing.specs.Checks.{checking, satisfying, asking};
 ghost use Rattle.finishing.specs.Follows.{FollowsFinished};
 ghost use Rattle.finishing.specs.Laws.{NamesRow, SatisfiesRows, ValuesFinished};
+ghost use Rattle.matrices.specs.Writing.{lent, writing};
+ghost use Rattle.matrices.specs.Laws.{as_written, Writes};
 
 use account::{OptimizationGoal, SynthesisMode};
 use field::Field;
+use matrices::{Cell, ConstraintMatrices};
 use tables::{Counts, Tables};
 use variables::{Refusal, Variable};
 
 // A circuit that was finalised: numbers alone, which say what of the lent tables is in use. Only finalising makes one, and there is no copy
-// of it. It can be checked and asked, and nothing is added to it.
+// of it. It can be checked and asked, its matrices can be written, and nothing is added to it.
 #[derive(Drop, Debug)]
 pub struct FinishedSystem {
     pub(crate) counts: Counts,
     ghost has_one: { 1 ≤ counts.instances },
+    ghost few_instances: { counts.instances ≤ limit },
+    ghost few_witnesses: { counts.witnesses ≤ limit },
 }
 
 impl FinishedSystem {
+    ghost use Rattle.constraint_system.specs.Circuit.{left};
     ghost use Rattle.constraint_system.specs.Finished.{finished_numbers, finished};
 
     pub fn mode(&self) -> SynthesisMode
@@ -108,5 +115,21 @@ impl FinishedSystem {
         ensures account { (work : ℕ) → FollowsFinished F.model (calls.assigned_value work variable) (answer_by calls.assigned result) (finished self.now tables.now) }
     {
         finalising::assigned_value(&self.counts, tables, variable)
+    }
+
+    // Writes the cells of A, then of B, then of C, each term of a row whose number is not zero and whose variable has a column, and for each
+    // row of A, then of B, then of C the place past its last cell. Answers how many instances, witnesses and rows there are and how many
+    // cells A, B and C have; in bare mode there is nothing to write, and none is answered.
+    pub fn to_matrices<F: Field>(
+        &self,
+        tables: &Tables<'_, F>,
+        cells: &mut [Cell<F>],
+        ends: &mut [usize],
+    ) -> Result<Option<ConstraintMatrices>, Refusal>
+        ensures does { writing F.model (finished self.now tables.now) (lent cells.old ends.old) ≡ left result (lent cells.new ends.new) }
+        ensures writes { IfOk result (λ answer. Writes F.model (finished self.now tables.now) (lent cells.new ends.new) answer) }
+        ensures account { FollowsFinished F.model (calls.to_matrices (length cells.old) (length ends.old)) (answer_by (as_written (lent cells.new ends.new)) result) (finished self.now tables.now) }
+    {
+        writing::to_matrices(&self.counts, tables, cells, ends)
     }
 }

@@ -8,5 +8,6 @@ mod finished_system;
 pub use account::{Mark, OptimizationGoal, SynthesisMode};
 pub use constraint_system::ConstraintSystem;
 pub use finished_system::FinishedSystem;
+pub use matrices::{Cell, ConstraintMatrices};
 pub use tables::{Entry, Tables};
 pub use variables::{LcIndex, Refusal, SynthesisError, Term, Variable};

@@ -24,7 +24,8 @@ module _ {V : Type 0} {m : Model V} (keeps : Keeps m) where
   sum_stays squares k v ℕ.zero le = refl
   sum_stays squares k v (suc n) le = ap₂ add (sum_stays squares k v n (omega arith)) (square_stays squares k v n (omega arith))
 
-  pub filled_more : (wall : Wall V) (before squares : List V) (k : ℕ) (grade loss : V) → k < length squares → k < windows_of wall → loss ≡ worked_loss m wall k → m.stands loss ≡ loss_at m wall k
+  pub filled_more : (wall : Wall V) (before squares : List V) (k : ℕ) (grade loss : V) → k < length squares → k < windows_of wall
+      → loss ≡ worked_loss m wall k → m.stands loss ≡ loss_at m wall k
       → Filled m wall before squares k grade → let v = m.times loss loss in Filled m wall before (set squares k v) (k + 1) (m.plus grade v)
   filled_more wall before squares k grade loss lt within worked is h =
       let v = m.times loss loss in
@@ -40,6 +41,7 @@ module _ {V : Type 0} {m : Model V} (keeps : Keeps m) where
           grade_worked = ap₂ m.plus h.worked.grade_worked value ∙ ap (worked_grade m wall) (sym next);
         };
         right = below_more _ _ (λ i i<k. h.right i i<k ∙ sym (square_stays squares k v i i<k)) here;
-        sum = ap (squares_to m (set squares k v)) next ∙ ap₂ add (sum_stays squares k v k (omega arith) ∙ h.sum) there ∙ sym (keeps.plus_stands grade v);
+        sum = ap (squares_to m (set squares k v)) next ∙ ap₂ add (sum_stays squares k v k (omega arith) ∙ h.sum) there
+            ∙ sym (keeps.plus_stands grade v);
         beyond = drop-set-lt (windows_of wall) squares k v within ∙ h.beyond;
       }

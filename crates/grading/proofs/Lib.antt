@@ -1,9 +1,8 @@
-pub mod Lengths
-pub mod Plays
-pub mod Spare
-pub mod Windows
-pub mod Runs
-pub mod Steps
-pub mod Judges
-pub mod Finals
 pub mod Honest
+pub mod Laid
+pub mod Accepted
+pub mod Judges
+pub mod Wrong
+pub mod Brings
+pub mod Stands
+pub mod Said

@@ -1,24 +1,18 @@
--- The grade of a wall, and the calls that constrain it. Assumes nothing.
-use Rattle.std.specs.Prelude.{◌≡◌, ℕ, suc, ◌+◌, ◌-◌, ◌<◌, ◌≤◌, List, [], ◌∷◌, length, Some, None, Ok, Err, Option, Result, slice_index_or}
+-- The grade of a wall, and the calls that constrain and judge it. Assumes nothing.
+use Rattle.std.specs.Prelude.{◌≡◌, ℕ, suc, ◌+◌, ◌-◌, ◌*◌, ◌<◌, ◌≤◌, ◌==◌, min, cond, List, [], ◌∷◌, ◌++◌, map, length, take, Some, None, Ok, Err, Option, Result, slice_index_or, slice_range}
 use Rattle.std.specs.List.{slice_get}
 use Rattle.field.specs.Laws.{Model}
 use Rattle.variables.specs.declared.SynthesisError.{SynthesisError}
 use Rattle.variables.specs.declared.SynthesisError.TheVariants.{AssignmentMissing}
 use Rattle.variables.specs.declared.Variable.{Variable}
-use Rattle.variables.specs.declared.Variable.TheVariants.{Zero, One, Witness}
+use Rattle.variables.specs.declared.Variable.TheVariants.{Zero, One, Instance, Witness, SymbolicLc}
+use Rattle.variables.specs.declared.Term.{Term}
 use Rattle.variables.specs.Terms.{term, once, opposite}
-use Rattle.variables.specs.declared.Refusal.{Refusal}
-use Rattle.variables.specs.Refusals.{Told, told}
-use Rattle.account.specs.Finish.{lacks}
 use Rattle.account.specs.declared.OptimizationGoal.{OptimizationGoal}
-use Rattle.account.specs.Account.{Account, opened}
-use Rattle.account.specs.Calls.{set_optimization_goal, new_input_variable, new_witness_variable, new_lc, enforce_constraint, which_is_unsatisfied, finalize, Answer, unsatisfied, Event, after}
-use Rattle.account.specs.Refusals.{Lengths, when, opening_refusal}
-use Rattle.account.specs.Run.{due}
+use Rattle.account.specs.Calls.{Call, set_optimization_goal, new_input_variable, new_witness_variable, new_lc, enforce_constraint, which_is_unsatisfied, finalize, to_matrices}
+use Rattle.calls.specs.Calls.{Rooms}
 use Rattle.grading.specs.declared.Wall.{Wall}
 use Rattle.grading.specs.declared.Claim.{Claim}
-use Rattle.grading.specs.declared.Finalized.{Finalized}
-use Rattle.grading.specs.Scripts.{Script, done, asks, unless_refused, unless, both, Played, played}
 
 -- how many windows of three readings a wall has
 abbrev pub windows_of : {V : Type 0} → Wall V → ℕ
@@ -29,85 +23,128 @@ abbrev pub handed : {V : Type 0} → Option V → Result V SynthesisError
 handed (Some square) = Ok square
 handed None = Err AssignmentMissing
 
--- what two checks answered, before finalising and after it, or the refusal
-abbrev pub both_checks : {V : Type 0} → Result Finalized Refusal → Result (Answer V × Answer V) Told
-both_checks (Ok f) = Ok (unsatisfied f.before, unsatisfied f.after)
-both_checks (Err e) = Err (told e)
+-- The variables of a claim, whose readings are the first witnesses. The square of window w comes after them, and each window takes six
+-- symbols: its sum, its loss, the three lists of its constraint, and the total of the windows up to it.
+abbrev pub symbol : ℕ → Variable
+symbol k = SymbolicLc (record { 0 = k })
+
+abbrev pub sum_of : ℕ → Variable
+sum_of w = symbol (6 * w)
+
+abbrev pub loss_of : ℕ → Variable
+loss_of w = symbol (6 * w + 1)
+
+abbrev pub square_of : {V : Type 0} → Wall V → ℕ → Variable
+square_of wall w = Witness (length wall.readings.now + w)
+
+-- the total of the windows before window w, which is Zero before the first
+abbrev pub total_before : ℕ → Variable
+total_before w = cond (w == 0) Zero (symbol (6 * w - 1))
+
+-- the number of places that lends all that there are
+abbrev pub all_places : ℕ
+all_places = 18446744073709551615
+
+module _ {V : Type 0} where
+  -- each reading is a witness
+  abbrev pub naming : List V → List (Call V)
+  naming readings = map (λ reading. new_witness_variable (Ok reading)) readings
+
+  -- a check, finalising, a check again, and a writing, which are lent all places that there are
+  abbrev pub judging : Rooms → List (Call V)
+  judging r =
+      which_is_unsatisfied (min all_places r.work) ∷ finalize ∷ which_is_unsatisfied (min all_places r.work)
+      ∷ to_matrices (min all_places r.cells) (min all_places r.ends) ∷ []
+
+  -- The calls over term places. The lists of a window lie in nine of them: three for its sum, two for its loss, one for the loss alone, one
+  -- for the square alone, and two for the total.
+  abbrev pub window_calls : List (Term V) → Result V SynthesisError → List (Call V)
+  window_calls ts square =
+      new_lc (slice_range ts 0 3) ∷ new_lc (slice_range ts 3 5) ∷ new_witness_variable square
+      ∷ enforce_constraint (slice_range ts 5 6) (slice_range ts 5 6) (slice_range ts 6 7) ∷ new_lc (slice_range ts 7 9) ∷ []
+
+  abbrev pub windows_calls : List (Term V) → List V → ℕ → List (Call V)
+  windows_calls ts squares ℕ.zero = []
+  windows_calls ts squares (suc n) =
+      windows_calls ts squares n ++ window_calls (slice_range ts (9 * n) (9 * n + 9)) (handed (slice_get squares n))
+
+  -- those of the last constraint in three
+  abbrev pub last_calls : List (Term V) → List (Call V)
+  last_calls ts = enforce_constraint (slice_range ts 0 1) (slice_range ts 1 2) (slice_range ts 2 3) ∷ []
+
+  abbrev pub calls_over : Rooms → OptimizationGoal → Wall V → Claim V → List (Term V) → List (Call V)
+  calls_over r goal wall claim ts =
+      let n = windows_of wall in
+      ((set_optimization_goal goal ∷ new_input_variable (Ok claim.grade) ∷ [])
+      ++ (naming wall.readings.now ++ (windows_calls ts claim.squares.now n ++ last_calls (slice_range ts (9 * n) (9 * n + 3)))))
+      ++ judging r
 
 module _ {V : Type 0} (m : Model V) where
   open m.ring use {Member, zero, one, ◌⊕◌, ◌⊗◌, neg}
 
   infixl 50 ◌⊕◌
   infixl 60 ◌⊗◌
-  -- The calls that constrain a grade.
+  -- The lists of a claim, which name variables that are known beforehand. Of window w:
 
-  -- each reading is a witness
-  abbrev pub naming : List V → Script V → Script V
-  naming [] rest = rest
-  naming (reading ∷ readings) rest = asks (new_witness_variable (Ok reading)) (λ _. naming readings rest)
+  -- its sum, and its loss, which are symbols;
+  abbrev pub sum_list : ℕ → List (Term V)
+  sum_list w = once m (Witness w) ∷ once m (Witness (w + 1)) ∷ once m (Witness (w + 2)) ∷ []
 
-  -- A window, whose readings are a, b and c: its sum is a symbol, its loss is a symbol, the claimed square is a witness, the loss times
-  -- itself is to be the square, and the total with it is a symbol.
-  abbrev pub constraining : V → (a b c : Variable) → Result V SynthesisError → (total : Variable) → (Variable → Script V) → Script V
-  constraining whole a b c claimed total rest =
-      asks (new_lc (once m a ∷ once m b ∷ once m c ∷ [])) (λ sum.
-      asks (new_lc (term whole One ∷ opposite m (once m sum) ∷ [])) (λ loss.
-      asks (new_witness_variable claimed) (λ square.
-      asks (enforce_constraint (once m loss ∷ []) (once m loss ∷ []) (once m square ∷ [])) (λ _.
-      asks (new_lc (once m total ∷ once m square ∷ [])) rest))))
+  abbrev pub loss_list : Wall V → ℕ → List (Term V)
+  loss_list wall w = term wall.whole One ∷ opposite m (once m (sum_of w)) ∷ []
 
-  -- the next n windows from window k on, where reading i is Witness(first + i)
-  abbrev pub all_windows : V → List V → (first k n : ℕ) → (total : Variable) → (Variable → Script V) → Script V
-  all_windows whole squares first k ℕ.zero total rest = rest total
-  all_windows whole squares first k (suc n) total rest =
-      constraining whole (Witness (first + k)) (Witness (first + k + 1)) (Witness (first + k + 2)) (handed (slice_get squares k)) total
-      (λ t. all_windows whole squares first (k + 1) n t rest)
+  -- the loss alone, and the square alone, for the constraint that the loss times itself is the square;
+  abbrev pub loss_alone : ℕ → List (Term V)
+  loss_alone w = once m (loss_of w) ∷ []
 
-  -- The claimed grade is an instance; each reading is a witness; then come the windows, and last the total is to be the grade. So many
-  -- witnesses were there before.
-  abbrev pub grading : (first : ℕ) → Wall V → Claim V → Script V
-  grading first wall claim =
-      asks (new_input_variable (Ok claim.grade)) (λ grade.
-      naming wall.readings.now (all_windows wall.whole claim.squares.now first 0 (windows_of wall) Zero (λ total.
-      asks (enforce_constraint (once m total ∷ []) (once m One ∷ []) (once m grade ∷ [])) (λ _. done))))
+  abbrev pub square_alone : Wall V → ℕ → List (Term V)
+  square_alone wall w = once m (square_of wall w) ∷ []
 
-  -- what a check of a claim answers in a circuit that is opened over tables of these lengths, by way of so many spare and work places
-  abbrev pub judging : Lengths → (spare work : ℕ) → Wall V → Claim V → Result (Answer V) Told
-  judging k spare work wall claim =
-      let p = played m k (grading 0 wall claim) (opened m) in
-      unless (opening_refusal k) (unless (when (lacks 3 spare) 19) (unless_refused p.answer (due m k p.account (which_is_unsatisfied work))))
+  -- and the total with it, which is a symbol.
+  abbrev pub total_list : Wall V → ℕ → List (Term V)
+  total_list wall w = once m (total_before w) ∷ once m (square_of wall w) ∷ []
 
-  -- The same towards a goal, which is set before all else.
-  abbrev pub grading_towards : OptimizationGoal → Wall V → Claim V → Script V
-  grading_towards goal wall claim = asks (set_optimization_goal goal) (λ _. grading 0 wall claim)
+  -- the terms of a window's lists, one after the other, and of those of the first n windows
+  abbrev pub window_terms : Wall V → ℕ → List (Term V)
+  window_terms wall w = sum_list w ++ (loss_list wall w ++ (loss_alone w ++ (square_alone wall w ++ total_list wall w)))
 
-  -- what comes of it in a circuit just opened
-  abbrev pub graded : Lengths → OptimizationGoal → Wall V → Claim V → Played V
-  graded k goal wall claim = played m k (grading_towards goal wall claim) (opened m)
+  abbrev pub windows_terms : Wall V → ℕ → List (Term V)
+  windows_terms wall ℕ.zero = []
+  windows_terms wall (suc n) = windows_terms wall n ++ window_terms wall n
 
-  -- whether it is refused in a circuit that is opened over tables of these lengths, by way of so many spare places
-  abbrev pub constraining_towards : Lengths → (spare : ℕ) → OptimizationGoal → Wall V → Claim V → Result (Unit {0}) Told
-  constraining_towards k spare goal wall claim =
-      unless (opening_refusal k) (unless (when (lacks 3 spare) 19) (graded k goal wall claim).answer)
+  -- those of the last constraint: the total, the constant one and the grade, which is instance 1
+  abbrev pub last_terms : Wall V → List (Term V)
+  last_terms wall = once m (total_before (windows_of wall)) ∷ once m One ∷ once m (Instance 1) ∷ []
 
-  -- finalising, as it is due to an account, and the account after it
-  abbrev pub finalizing : Lengths → Account V → Event V
-  finalizing k x = record { call = finalize; answer = due m k x finalize }
+  -- the terms of all lists of a claim
+  abbrev pub terms_of : Wall V → List (Term V)
+  terms_of wall = windows_terms wall (windows_of wall) ++ last_terms wall
 
-  abbrev pub finalized_account : Lengths → OptimizationGoal → Wall V → Claim V → Account V
-  finalized_account k goal wall claim = let x = (graded k goal wall claim).account in after m x (finalizing k x)
+  -- The calls of a claim. Those of window w: its sum is a symbol, its loss is a symbol, the claimed square is a witness, the loss times itself
+  -- is to be the square, and the total with it is a symbol.
+  abbrev pub constraining : Wall V → List V → ℕ → List (Call V)
+  constraining wall squares w =
+      new_lc (sum_list w) ∷ new_lc (loss_list wall w) ∷ new_witness_variable (handed (slice_get squares w))
+      ∷ enforce_constraint (loss_alone w) (loss_alone w) (square_alone wall w) ∷ new_lc (total_list wall w) ∷ []
 
-  -- what is due to a check, to finalising, and to the check after it: the first refusal, or what both checks answer
-  abbrev pub checking_twice : Lengths → (work : ℕ) → Account V → Result (Answer V × Answer V) Told
-  checking_twice k work x =
-      let check = which_is_unsatisfied work in
-      let e = finalizing k x in
-      both (due m k x check) (unless_refused e.answer (due m k (after m x e) check))
+  -- the first n windows
+  abbrev pub constraining_windows : Wall V → List V → ℕ → List (Call V)
+  constraining_windows wall squares ℕ.zero = []
+  constraining_windows wall squares (suc n) = constraining_windows wall squares n ++ constraining wall squares n
 
-  -- what two checks of a claim answer, before finalising and after it
-  abbrev pub judging_finalized : Lengths → (spare work : ℕ) → OptimizationGoal → Wall V → Claim V → Result (Answer V × Answer V) Told
-  judging_finalized k spare work goal wall claim =
-      unless_refused (constraining_towards k spare goal wall claim) (checking_twice k work (graded k goal wall claim).account)
+  -- and last the total is to be the grade
+  abbrev pub ending : Wall V → List (Call V)
+  ending wall = enforce_constraint (once m (total_before (windows_of wall)) ∷ []) (once m One ∷ []) (once m (Instance 1) ∷ []) ∷ []
+
+  -- The goal is set, the claimed grade is an instance, each reading is a witness, and then come the windows.
+  abbrev pub grading : OptimizationGoal → Wall V → Claim V → List (Call V)
+  grading goal wall claim =
+      (set_optimization_goal goal ∷ new_input_variable (Ok claim.grade) ∷ [])
+      ++ (naming wall.readings.now ++ (constraining_windows wall claim.squares.now (windows_of wall) ++ ending wall))
+
+  -- The calls that grade a claim and judge it.
+  abbrev pub claim_calls : Rooms → OptimizationGoal → Wall V → Claim V → List (Call V)
+  claim_calls r goal wall claim = grading goal wall claim ++ judging r
 
   -- What a grade is.
 
@@ -167,3 +204,8 @@ module _ {V : Type 0} (m : Model V) where
   abbrev pub Judged : Wall V → List V → V → Option ℕ → Type 0
   Judged wall squares grade None = Honest wall squares grade
   Judged wall squares grade (Some j) = WrongFirst wall squares grade j
+
+  -- Over places that begin with the terms of a claim's lists, the calls are those of the claim.
+  abbrev pub CallsLie : Type 0
+  CallsLie = (r : Rooms) (goal : OptimizationGoal) (wall : Wall V) (claim : Claim V) (places : List (Term V))
+      → take (length (terms_of wall)) places ≡ terms_of wall → calls_over r goal wall claim places ≡ claim_calls r goal wall claim

@@ -1,2 +1,2 @@
-pub mod Scripts
 pub mod Grades
+pub mod Verdicts

@@ -2,14 +2,18 @@
 
 // Reads a run of wall-thickness readings, a number of micrometres to a line, and prints the smoothing sum of each window of three: the
 // linear combination and what it is worth, over p31. Then it grades the wall, and checks the grade in a circuit: once over the log, and
-// once over the log with a shallow pit that was not claimed. Then it finalises that circuit towards each goal, prints the finished lists, and
-// checks the claim before and after. Last it prints the smoothing sums over gf8 for the bytes of the log.
-use constraint_system::{Entry, FinishedSystem, Mark, OptimizationGoal, Tables};
+// once over the log with a shallow pit that was not claimed. Then it makes that circuit towards each goal, finalises it, prints the finished lists
+// and the matrices, and checks the claim before and after. Each circuit is one run of calls. Last it prints the smoothing sums over gf8 for the
+// bytes of the log.
 use field::Field;
 use gf8::Gf8;
-use grading::{Claim, Finalized, Wall, grade, judge, judge_finalized};
+use grading::{Claim, Verdict, Wall, claim_calls, claim_terms, grade, judge};
 use p31::P31;
 use relations::{LinearCombination, Refusal, Term};
+use runs::{
+    Answer, Call, Cell, Circuit, ConstraintMatrices, Entry, FinishedSystem, Mark, OptimizationGoal,
+    Tables,
+};
 use smoothing::smooth;
 use std::alloc::{AllocError, Global};
 use std::fmt::Display;
@@ -38,62 +42,94 @@ fn show_windows<F: Field + Display>(rt: &HostRuntime, readings: &[F]) -> anyhow:
     Ok(())
 }
 
-// The tables that are lent to a circuit, with spare and work places.
+// What is lent to a run: the tables of its circuit, and beside them work places, cells, row ends and places for answers.
 #[derive(Drop)]
 struct Places {
     terms: Vec<Term<P31>>,
     index: Vec<Entry>,
     instances: Vec<P31>,
     witnesses: Vec<P31>,
-    spare: Vec<Term<P31>>,
     work: Vec<Option<P31>>,
+    cells: Vec<Cell<P31>>,
+    ends: Vec<usize>,
+    answers: Vec<Answer<P31>>,
 }
 
 impl Places {
     // Places that suffice for a claim of so many readings, finalised too. Of each window three lists are named and three constrained, which
     // have ten terms together, and no more than twenty as finished, but that the total of the windows so far has one more for each of them.
+    // Each cell is one of these terms, and each row end one of three lists of a row.
     fn for_readings(heap: Global, count: usize) -> Result<Places, AllocError> {
         let lists = count.saturating_mul(15).saturating_add(10);
         let totals = count.saturating_mul(count);
-        let places = count.saturating_mul(30).saturating_add(10);
+        let terms = count
+            .saturating_mul(30)
+            .saturating_add(10)
+            .saturating_add(totals);
+        let empty = Cell {
+            number: P31::zero(),
+            column: 0,
+        };
         Ok(Places {
-            terms: vec![in heap; Term::default(); places.saturating_add(totals)]?,
+            terms: vec![in heap; Term::default(); terms]?,
             index: vec![in heap; Entry::new(Mark::Plain, 0, 0); lists]?,
             instances: vec![in heap; P31::zero(); 2]?,
             witnesses: vec![in heap; P31::zero(); count.saturating_mul(5).saturating_add(2)]?,
-            spare: vec![in heap; Term::default(); WIDTH]?,
             work: vec![in heap; None; lists]?,
+            cells: vec![in heap; empty; terms]?,
+            ends: vec![in heap; 0usize; lists]?,
+            answers: vec![in heap; Answer::Done; calls_for(count)]?,
         })
     }
 
-    // Checks a claim in a circuit of its own: which constraint fails first, or none.
-    fn judge(&mut self, wall: &Wall<P31>, claim: &Claim<P31>) -> Result<Option<usize>, Refusal> {
+    // Makes the calls of a claim in one run, and reads the verdict. The finished lists then lie in the terms, and the matrices in the cells.
+    fn judge(&mut self, calls: &[Call<'_, P31>]) -> Result<Verdict, Refusal> {
         let mut tables = Tables {
             terms: self.terms.as_mut_slice(),
             index: self.index.as_mut_slice(),
             instances: self.instances.as_mut_slice(),
             witnesses: self.witnesses.as_mut_slice(),
         };
-        let spare = self.spare.as_mut_slice();
-        judge(&mut tables, wall, claim, spare, self.work.as_mut_slice())
-    }
-
-    // The same before and after the circuit is finalised towards a goal. The finished lists then lie in the terms.
-    fn finalize(
-        &mut self,
-        goal: OptimizationGoal,
-        wall: &Wall<P31>,
-        claim: &Claim<P31>,
-    ) -> Result<Finalized, Refusal> {
-        let mut tables = Tables {
-            terms: self.terms.as_mut_slice(),
-            index: self.index.as_mut_slice(),
-            instances: self.instances.as_mut_slice(),
-            witnesses: self.witnesses.as_mut_slice(),
-        };
-        let spare = self.spare.as_mut_slice();
         let work = self.work.as_mut_slice();
-        judge_finalized(&mut tables, goal, wall, claim, spare, work)
+        let cells = self.cells.as_mut_slice();
+        let ends = self.ends.as_mut_slice();
+        judge(
+            calls,
+            &mut tables,
+            work,
+            cells,
+            ends,
+            self.answers.as_mut_slice(),
+        )
+    }
+}
+
+// Places for the calls of a claim of so many readings: one for each reading, five for each window, and seven more.
+fn calls_for(count: usize) -> usize {
+    count.saturating_mul(6).saturating_add(7)
+}
+
+// Lays the calls of a claim, and has them judged in one run.
+fn judge_claim(
+    heap: Global,
+    places: &mut Places,
+    goal: OptimizationGoal,
+    wall: &Wall<P31>,
+    claim: &Claim<P31>,
+) -> Result<Result<Verdict, Refusal>, AllocError> {
+    let count = wall.readings.len();
+    let room = count.saturating_mul(9).saturating_add(3);
+    let mut terms = vec![in heap; Term::default(); room]?;
+    if let Err(refusal) = claim_terms(wall, terms.as_mut_slice()) {
+        return Ok(Err(refusal));
+    }
+    let mut calls = vec![in heap; Call::Finalize; calls_for(count)]?;
+    match claim_calls(goal, wall, claim, terms.as_slice(), calls.as_mut_slice()) {
+        Ok(count) => {
+            calls.truncate(count);
+            Ok(places.judge(calls.as_slice()))
+        }
+        Err(refusal) => Ok(Err(refusal)),
     }
 }
 
@@ -106,15 +142,17 @@ fn show_first(rt: &HostRuntime, name: &str, first: Option<usize>) -> anyhow::Res
     Ok(())
 }
 
-fn show_checks(rt: &HostRuntime, finalized: &Finalized) -> anyhow::Result<()> {
-    show_first(rt, "unsatisfied_before", finalized.before)?;
-    show_first(rt, "unsatisfied_after", finalized.after)
+fn show_checks(rt: &HostRuntime, verdict: &Verdict) -> anyhow::Result<()> {
+    show_first(rt, "unsatisfied_before", verdict.before)?;
+    show_first(rt, "unsatisfied_after", verdict.after)
 }
 
+// What the check says before finalising.
 fn show_check(rt: &HostRuntime, wall: &Wall<P31>, claim: &Claim<P31>) -> anyhow::Result<()> {
-    let mut places = Places::for_readings(rt.alloc(), wall.readings.len())?;
-    match places.judge(wall, claim) {
-        Ok(first) => show_first(rt, "unsatisfied", first)?,
+    let heap = rt.alloc();
+    let mut places = Places::for_readings(heap, wall.readings.len())?;
+    match judge_claim(heap, &mut places, OptimizationGoal::None, wall, claim)? {
+        Ok(verdict) => show_first(rt, "unsatisfied", verdict.before)?,
         Err(refusal) => println!(rt; "refused={}", refusal.number())?,
     }
     Ok(())
@@ -146,18 +184,75 @@ fn show_circuit(rt: &HostRuntime, circuit: &FinishedSystem, places: &Places) -> 
     Ok(())
 }
 
+// The cells of one row of a matrix, behind its letter.
+fn show_row(rt: &HostRuntime, letter: &str, cells: &[Cell<P31>]) -> anyhow::Result<()> {
+    print!(rt; "{letter}=")?;
+    for (k, cell) in cells.iter().enumerate() {
+        if k > 0 {
+            print!(rt; " ")?;
+        }
+        print!(rt; "{}@{}", cell.number, cell.column)?;
+    }
+    println!(rt; "")?;
+    Ok(())
+}
+
+// Row `at` of the rows of A, B and C together, which lie one after the other.
+fn show_row_at(rt: &HostRuntime, letter: &str, at: usize, places: &Places) -> anyhow::Result<()> {
+    let start = match at.checked_sub(1) {
+        Some(before) => places.ends.get(before).copied().unwrap_or(0),
+        None => 0,
+    };
+    let end = places.ends.get(at).copied().unwrap_or(start);
+    let cells = places.cells.as_slice();
+    show_row(rt, letter, cells.get(start..end).unwrap_or(&[]))
+}
+
+// How many cells each matrix has, and its rows, of which those of A, of B and of C stand under one another.
+fn show_matrices(
+    rt: &HostRuntime,
+    matrices: &ConstraintMatrices,
+    places: &Places,
+) -> anyhow::Result<()> {
+    let (a, b, c) = matrices.num_non_zero;
+    println!(rt; "a_nonzero={a}")?;
+    println!(rt; "b_nonzero={b}")?;
+    println!(rt; "c_nonzero={c}")?;
+    let rows = matrices.num_constraints;
+    for row in 0..rows {
+        show_row_at(rt, "a", row, places)?;
+        show_row_at(rt, "b", row.saturating_add(rows), places)?;
+        show_row_at(
+            rt,
+            "c",
+            row.saturating_add(rows).saturating_add(rows),
+            places,
+        )?;
+    }
+    Ok(())
+}
+
+// What comes of a claim's run: the finished circuit, its matrices, and the two checks.
+fn show_verdict(rt: &HostRuntime, verdict: &Verdict, places: &Places) -> anyhow::Result<()> {
+    if let Circuit::Finished(circuit) = &verdict.circuit {
+        show_circuit(rt, circuit, places)?;
+    }
+    if let Some(matrices) = &verdict.matrices {
+        show_matrices(rt, matrices, places)?;
+    }
+    show_checks(rt, verdict)
+}
+
 fn show_finalized(
     rt: &HostRuntime,
     goal: OptimizationGoal,
     wall: &Wall<P31>,
     claim: &Claim<P31>,
 ) -> anyhow::Result<()> {
-    let mut places = Places::for_readings(rt.alloc(), wall.readings.len())?;
-    match places.finalize(goal, wall, claim) {
-        Ok(finalized) => {
-            show_circuit(rt, &finalized.circuit, &places)?;
-            show_checks(rt, &finalized)?;
-        }
+    let heap = rt.alloc();
+    let mut places = Places::for_readings(heap, wall.readings.len())?;
+    match judge_claim(heap, &mut places, goal, wall, claim)? {
+        Ok(verdict) => show_verdict(rt, &verdict, &places)?,
         Err(refusal) => println!(rt; "refused={}", refusal.number())?,
     }
     Ok(())
@@ -174,9 +269,10 @@ fn show_goals(rt: &HostRuntime, wall: &Wall<P31>, claim: &Claim<P31>) -> anyhow:
 
 // The two checks alone, under goal Weight.
 fn show_weighed(rt: &HostRuntime, wall: &Wall<P31>, claim: &Claim<P31>) -> anyhow::Result<()> {
-    let mut places = Places::for_readings(rt.alloc(), wall.readings.len())?;
-    match places.finalize(OptimizationGoal::Weight, wall, claim) {
-        Ok(finalized) => show_checks(rt, &finalized)?,
+    let heap = rt.alloc();
+    let mut places = Places::for_readings(heap, wall.readings.len())?;
+    match judge_claim(heap, &mut places, OptimizationGoal::Weight, wall, claim)? {
+        Ok(verdict) => show_checks(rt, &verdict)?,
         Err(refusal) => println!(rt; "refused={}", refusal.number())?,
     }
     Ok(())

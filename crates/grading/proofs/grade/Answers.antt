@@ -6,7 +6,13 @@ use Rattle.grading.proofs.grade.Goals as goal
 pub loop-k-init : goal.loop-k-init
 loop-k-init g c =
     let m = g.F.Field.model in
-    record { worked = record { squares_worked = λ i lt. absurd (omega arith); grade_worked = c.zero-grade.ensures }; right = λ i lt. absurd (omega arith); sum = sym (ap m.stands c.zero-grade.ensures ∙ g.met.F.Field.keeps.zero_stands); beyond = refl }
+    record {
+      worked = record { squares_worked = λ i lt. absurd (omega arith); grade_worked = c.zero-grade.ensures };
+      right
+          = λ i lt. absurd (omega arith);
+      sum = sym (ap m.stands c.zero-grade.ensures ∙ g.met.F.Field.keeps.zero_stands);
+      beyond = refl;
+    }
 
 pub loop-k-preserved : goal.loop-k-preserved
 loop-k-preserved g c =

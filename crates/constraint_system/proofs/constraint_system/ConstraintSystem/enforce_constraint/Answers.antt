@@ -1,4 +1,5 @@
-use Rattle.constraint_system.proofs.Outcomes.{one_stays}
+use Rattle.std.proofs.Common.{arith}
+use Rattle.constraint_system.proofs.Variables.{constraint_counts_none}
 use Rattle.variables.specs.Refusals.{answered}
 use Rattle.account.specs.Calls as calls
 use Rattle.tables.specs.Held.{state}
@@ -10,7 +11,14 @@ use Rattle.constraint_system.proofs.constraint_system.ConstraintSystem.enforce_c
 
 pub invariant_of-self : goal.invariant_of-self
 invariant_of-self g c =
-    record { has_one = one_stays (state c.args.self.now.counts c.args.tables.now) _ c.args.a.now c.args.b.now c.args.c.now _ c.args.self.now.has_one c.enforce_constraint.ensures.does }
+    let before = c.args.self.now in
+    let same = constraint_counts_none (state before.counts c.args.tables.now) (answered c.enforce_constraint.result) c.args.a.now c.args.b.now c.args.c.now
+    (state c.enforce_constraint.new.counts c.enforce_constraint.new.tables) c.enforce_constraint.ensures.does in
+    record {
+      has_one = omega (arith, before.has_one, same.instances);
+      few_instances = omega (arith, before.few_instances, same.instances);
+      few_witnesses = omega (arith, before.few_witnesses, same.witnesses);
+    }
 
 pub returns-clause-beyond : goal.returns-clause-beyond
 returns-clause-beyond g c =

@@ -1,3 +1,4 @@
+use Rattle.std.proofs.Common.{arith}
 use Rattle.variables.specs.Refusals.{answered}
 use Rattle.account.specs.Calls as calls
 use Rattle.tables.specs.Held.{state}
@@ -5,7 +6,19 @@ use Rattle.tables.specs.Calls.{naming_list}
 use Rattle.tables.proofs.Beyond.{calls_keep_beyond}
 use Rattle.tables.proofs.Calls.{calls_follow}
 use Rattle.tables.proofs.Clauses.{follows_by_outcome, keeps_by_outcome}
+use Rattle.constraint_system.proofs.Variables.{list_counts_none}
 use Rattle.constraint_system.proofs.constraint_system.ConstraintSystem.new_lc.Goals as goal
+
+pub invariant_of-self : goal.invariant_of-self
+invariant_of-self g c =
+    let before = c.args.self.now in
+    let same = list_counts_none (state before.counts c.args.tables.now) (answered c.new_lc.result) c.args.list.now
+    (state c.new_lc.new.counts c.new_lc.new.tables) c.new_lc.ensures.does in
+    record {
+      has_one = omega (arith, before.has_one, same.instances);
+      few_instances = omega (arith, before.few_instances, same.instances);
+      few_witnesses = omega (arith, before.few_witnesses, same.witnesses);
+    }
 
 pub returns-clause-beyond : goal.returns-clause-beyond
 returns-clause-beyond g c =

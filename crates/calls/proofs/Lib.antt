@@ -1,0 +1,16 @@
+pub mod OpenSteps
+pub mod Free
+pub mod OpenWork
+pub mod OpenCalls
+pub mod WritesWhole
+pub mod FinishedOne
+pub mod FinishedCalls
+pub mod AfterRuns
+pub mod GrowPlaces
+pub mod GrowBeside
+pub mod Grows
+pub mod ReadsOn
+pub mod LogDue
+pub mod DueAnswers
+pub mod PromiseKept
+pub mod DoesGo

@@ -1,0 +1,3 @@
+pub mod WrittenBack
+pub mod Rows
+pub mod Follows

@@ -1,0 +1,2 @@
+pub mod CallsDo
+pub mod Turns
