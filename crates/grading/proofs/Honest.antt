@@ -2,8 +2,8 @@
 use Rattle.std.proofs.Common.{◌≡◌, ℕ, suc, ◌+◌, ◌<◌, ◌≤◌, ◌≢◌, List, length, set, drop, refl, ap, ◌∙◌, sym, ap₂, arith, get_or-set_other, get_or-set_same, below_more}
 use Rattle.std.proofs.lemmas.List.{drop-set-lt}
 use Rattle.field.specs.Laws.{Model, Keeps}
-use Rattle.grading.specs.declared.Wall.{Wall}
-use Rattle.grading.specs.Grades.{windows_of, loss_at, square_at, squares_to, RightSquare, worked_loss, worked_square, worked_grade, Worked}
+use Rattle.claims.specs.declared.Wall.{Wall}
+use Rattle.claims.specs.Grades.{windows_of, loss_at, square_at, squares_to, RightSquare, worked_loss, worked_square, worked_grade, Worked}
 
 module _ {V : Type 0} (m : Model V) where
   -- the first k squares are worked out and right, the grade so far is their sum, and what is past the windows stays

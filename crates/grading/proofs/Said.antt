@@ -12,7 +12,8 @@ use Rattle.calls.specs.Calls.{Beside}
 use Rattle.runs.specs.declared.steps.Circuit.{Circuit}
 use Rattle.runs.specs.Run.{Opens}
 use Rattle.grading.specs.declared.judging.Verdict.{Verdict}
-use Rattle.grading.specs.Verdicts.{Reading, read_by, unless_refused, refusal_in, from_end, row_in, counts_in, reading_in}
+use Rattle.claims.specs.Verdicts.{Reading, unless_refused, refusal_in, from_end, row_in, counts_in, reading_in}
+use Rattle.grading.specs.Reading.{read_by}
 
 -- what follows from what a call answers
 pub ok_more : {X E : Type 0} (P Q : X → Type 0) (r : Result X E) → IfOk r P → ((x : X) → P x → Q x) → IfOk r Q

@@ -1,2 +1,1 @@
-pub mod Grades
-pub mod Verdicts
+pub mod Reading

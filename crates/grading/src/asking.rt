@@ -5,10 +5,10 @@ ghost use Rattle.tables.specs.Held.{put};
 ghost use Rattle.matrices.specs.Writing.{over};
 ghost use Rattle.account.specs.Calls.{set_optimization_goal, new_input_variable};
 ghost use Rattle.calls.specs.Calls.{Rooms, as_call};
-ghost use Rattle.grading.specs.Grades.{windows_of, naming, judging, window_calls, windows_calls, last_calls, calls_over};
+ghost use Rattle.claims.specs.Grades.{windows_of, naming, judging, window_calls, windows_calls, last_calls, calls_over};
 
 use crate::lists::{LAST_TERMS, WINDOW_TERMS, have_room};
-use crate::{Claim, Wall};
+use crate::{Claim, Wall, square};
 use account::OptimizationGoal;
 use calls::Call;
 use field::Field;
@@ -84,7 +84,7 @@ fn lay_windows<'t, F: Field>(
     for w in 0..windows {
         let start = WINDOW_TERMS * w;
         let lists = &terms[start..start + WINDOW_TERMS];
-        lay_window(lists, claim.square(w), calls, at + WINDOW_CALLS * w);
+        lay_window(lists, square(claim, w), calls, at + WINDOW_CALLS * w);
     }
 }
 

@@ -12,10 +12,11 @@ ghost use Rattle.calls.specs.Laws.{while_open};
 ghost use Rattle.runs.specs.declared.steps.Circuit.{Circuit as CircuitLeft};
 ghost use Rattle.calls.specs.Promise.{Refuses, Shows};
 ghost use Rattle.runs.specs.Run.{beside, standing, answers_to, log};
-ghost use Rattle.grading.specs.Grades.{claim_calls};
-ghost use Rattle.grading.specs.declared.Wall.{Wall};
-ghost use Rattle.grading.specs.declared.Claim.{Claim};
-ghost use Rattle.grading.specs.Verdicts.{refusal_in, from_end, row_in, counts_in, read_by, reading_in, refused_at_once, claim_account, Said};
+ghost use Rattle.claims.specs.Grades.{claim_calls};
+ghost use Rattle.claims.specs.declared.Wall.{Wall};
+ghost use Rattle.claims.specs.declared.Claim.{Claim};
+ghost use Rattle.claims.specs.Verdicts.{refusal_in, from_end, row_in, counts_in, reading_in, refused_at_once, claim_account, Said};
+ghost use Rattle.grading.specs.Reading.{read_by};
 
 use calls::{Answer, Call};
 use field::Field;

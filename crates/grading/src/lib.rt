@@ -4,65 +4,37 @@
 ghost use Rattle.std.specs.Prelude.{◌≡◌, ◌+◌, ◌-◌, ◌<◌, ◌≤◌, ◌↔◌, length, drop, IfOk, IsErr};
 ghost use Rattle.std.specs.List.{slice_get};
 ghost use Rattle.variables.specs.Refusals.{answered, refused};
-ghost use Rattle.grading.specs.Grades.{windows_of, handed, loss_at, Honest, worked_loss, Worked, CallsLie};
-ghost use Rattle.grading.specs.Verdicts.{AnswersJudge};
+ghost use Rattle.claims.specs.Grades.{windows_of, handed, loss_at, Honest, worked_loss, Worked};
 
 mod asking;
 mod judging;
 mod lists;
 
 pub use asking::claim_calls;
+pub use claims::{Claim, Wall};
 use field::Field;
 pub use judging::{Verdict, judge};
 pub use lists::claim_terms;
 use variables::{Refusal, SynthesisError};
 
-// So many readings make a window.
-const WIDTH: usize = 3;
-
-// The readings of a wall in their order, and what a window of three sums to where the wall is whole.
-#[derive(Clone, Copy)]
-pub struct Wall<'a, F> {
-    pub readings: &'a [F],
-    pub whole: F,
+// The loss of window `k`.
+fn loss<F: Field>(wall: &Wall<F>, k: usize) -> F
+    requires within { k < windows_of wall.now }
+    ensures worked { result ≡ worked_loss F.model wall.now k }
+    ensures stands { F.model.stands result ≡ loss_at F.model wall.now k }
+{
+    let sum = wall.readings[k]
+        .sum(wall.readings[k + 1])
+        .sum(wall.readings[k + 2]);
+    wall.whole.sum(sum.negative())
 }
 
-// What is claimed of a wall: the squared loss of each window, and the grade.
-#[derive(Clone, Copy)]
-pub struct Claim<'a, F> {
-    pub squares: &'a [F],
-    pub grade: F,
-}
-
-impl<F: Field> Wall<'_, F> {
-    // How many windows there are.
-    pub fn windows(&self) -> usize
-        ensures { result ≡ windows_of self.now }
-    {
-        self.readings.len().saturating_sub(WIDTH - 1)
-    }
-
-    // The loss of window `k`.
-    fn loss(&self, k: usize) -> F
-        requires within { k < windows_of self.now }
-        ensures worked { result ≡ worked_loss F.model self.now k }
-        ensures stands { F.model.stands result ≡ loss_at F.model self.now k }
-    {
-        let sum = self.readings[k]
-            .sum(self.readings[k + 1])
-            .sum(self.readings[k + 2]);
-        self.whole.sum(sum.negative())
-    }
-}
-
-impl<F: Field> Claim<'_, F> {
-    // The claimed square of window `k`, as it is handed in for its witness.
-    fn square(&self, k: usize) -> Result<F, SynthesisError>
-        ensures { result ≡ handed (slice_get self.now.squares.now k) }
-    {
-        let square = self.squares.get(k).copied();
-        square.ok_or(SynthesisError::AssignmentMissing)
-    }
+// The claimed square of window `k`, as it is handed in for its witness.
+fn square<F: Field>(claim: &Claim<F>, k: usize) -> Result<F, SynthesisError>
+    ensures { result ≡ handed (slice_get claim.now.squares.now k) }
+{
+    let square = claim.squares.get(k).copied();
+    square.ok_or(SynthesisError::AssignmentMissing)
 }
 
 // What an honest inspector claims: fills the places for the squares of the windows, and answers the grade.
@@ -78,20 +50,10 @@ pub fn grade<F: Field>(wall: &Wall<F>, squares: &mut [F]) -> Result<F, Refusal>
     }
     let mut grade = F::zero();
     for k in 0..windows {
-        let loss = wall.loss(k);
+        let loss = loss(wall, k);
         let square = loss.product(loss);
         squares[k] = square;
         grade = grade.sum(square);
     }
     Ok(grade)
 }
-
-// Over the terms of a claim's lists, the calls that are made of them are those of the claim.
-pub fn calls_lie_over_their_terms<F: Field>()
-    ensures { CallsLie F.model }
-{}
-
-// The answers to the calls of a claim judge it, where none of them is refused.
-pub fn answers_judge_a_claim<F: Field>()
-    ensures { AnswersJudge F.model }
-{}

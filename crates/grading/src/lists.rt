@@ -3,7 +3,7 @@ ghost use Rattle.std.specs.Prelude.{◌≡◌, ◌+◌, ◌*◌, ◌<◌, ◌≤
 ghost use Rattle.variables.specs.Refusals.{answered, refused};
 ghost use Rattle.tables.specs.Held.{put};
 ghost use Rattle.matrices.specs.Writing.{over};
-ghost use Rattle.grading.specs.Grades.{windows_of, total_before, window_terms, windows_terms, last_terms, terms_of};
+ghost use Rattle.claims.specs.Grades.{windows_of, total_before, window_terms, windows_terms, last_terms, terms_of};
 
 use crate::Wall;
 use field::Field;

@@ -1,5 +1,5 @@
 use Rattle.std.proofs.Common.{◌≡◌, ◌<◌, length, refl, ◌∙◌, sym, ap, subst, arith}
-use Rattle.grading.specs.Grades.{windows_of, squares_to, Worked}
+use Rattle.claims.specs.Grades.{windows_of, squares_to, Worked}
 use Rattle.grading.proofs.Honest.{filled_more}
 use Rattle.grading.proofs.grade.Goals as goal
 

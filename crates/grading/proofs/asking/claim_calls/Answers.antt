@@ -4,8 +4,8 @@ use Rattle.std.specs.Prelude.{slice_range}
 use Rattle.account.specs.Calls.{Call, set_optimization_goal, new_input_variable}
 use Rattle.matrices.specs.Writing.{over}
 use Rattle.calls.specs.Calls.{as_call}
-use Rattle.grading.specs.Grades.{naming, judging, windows_calls, last_calls}
-use Rattle.grading.proofs.Laid.{parts_over, naming_long, windows_calls_long, calls_over_long, behind_more}
+use Rattle.claims.specs.Grades.{naming, judging, windows_calls, last_calls}
+use Rattle.claims.proofs.Laid.{parts_over, naming_long, windows_calls_long, calls_over_long, behind_more}
 use Rattle.grading.proofs.asking.claim_calls.Goals as goal
 
 pub returns-clause-laid : goal.returns-clause-laid

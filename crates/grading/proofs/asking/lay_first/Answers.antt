@@ -1,7 +1,7 @@
 use Rattle.std.proofs.Common.{[], ◌∷◌, Ok, map, ap, ◌∙◌}
 use Rattle.calls.specs.declared.Call.TheVariants.{SetOptimizationGoal, NewInputVariable}
 use Rattle.calls.specs.Calls.{as_call}
-use Rattle.grading.proofs.Laid.{set_two, map_over}
+use Rattle.claims.proofs.Laid.{set_two, map_over}
 use Rattle.grading.proofs.asking.lay_first.Goals as goal
 
 pub returns-clause-laid : goal.returns-clause-laid

@@ -2,8 +2,8 @@ use Rattle.std.proofs.Common.{◌+◌, map, take, sym, ap, ◌∙◌, arith}
 use Rattle.std.proofs.lemmas.List.{length-take-le, take_all, drop-set-lt}
 use Rattle.tables.specs.Held.{put}
 use Rattle.calls.specs.Calls.{as_call}
-use Rattle.grading.specs.Grades.{naming}
-use Rattle.grading.proofs.Laid.{map_more, naming_long, naming_more, behind_more}
+use Rattle.claims.specs.Grades.{naming}
+use Rattle.claims.proofs.Laid.{map_more, naming_long, naming_more, behind_more}
 use Rattle.grading.proofs.asking.lay_readings.Goals as goal
 
 pub loop-i-preserved : goal.loop-i-preserved

@@ -1,7 +1,7 @@
 use Rattle.std.proofs.Common.{◌≡◌, ◌+◌, map, take, drop}
 use Rattle.tables.specs.Held.{put}
 use Rattle.calls.specs.Calls.{Rooms, as_call}
-use Rattle.grading.specs.Grades.{naming}
+use Rattle.claims.specs.Grades.{naming}
 use Rattle.grading.proofs.asking.lay_readings.Given as goal
 
 abbrev pub invariant-loop-i : goal.invariant-loop-i

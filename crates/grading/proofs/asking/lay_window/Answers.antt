@@ -1,6 +1,6 @@
 use Rattle.std.proofs.Common.{map, drop, refl, ap, ◌∙◌}
 use Rattle.calls.specs.Calls.{as_call}
-use Rattle.grading.proofs.Laid.{set_five, put_behind, map_put}
+use Rattle.claims.proofs.Laid.{set_five, put_behind, map_put}
 use Rattle.grading.proofs.asking.lay_window.Goals as goal
 
 pub returns-clause-laid : goal.returns-clause-laid

@@ -4,8 +4,8 @@ use Rattle.std.specs.Prelude.{slice_range}
 use Rattle.std.specs.List.{slice_get}
 use Rattle.tables.specs.Held.{put}
 use Rattle.calls.specs.Calls.{as_call}
-use Rattle.grading.specs.Grades.{handed, window_calls, windows_calls}
-use Rattle.grading.proofs.Laid.{over_more, windows_calls_long, behind_more}
+use Rattle.claims.specs.Grades.{handed, window_calls, windows_calls}
+use Rattle.claims.proofs.Laid.{over_more, windows_calls_long, behind_more}
 use Rattle.grading.proofs.asking.lay_windows.Goals as goal
 
 pub loop-w-preserved : goal.loop-w-preserved

@@ -1,7 +1,7 @@
 use Rattle.std.proofs.Common.{◌≡◌, ◌+◌, ◌*◌, map, drop}
 use Rattle.tables.specs.Held.{put}
 use Rattle.calls.specs.Calls.{Rooms, as_call}
-use Rattle.grading.specs.Grades.{windows_calls}
+use Rattle.claims.specs.Grades.{windows_calls}
 use Rattle.grading.proofs.asking.lay_windows.Given as goal
 
 abbrev pub invariant-loop-w : goal.invariant-loop-w

@@ -1,5 +1,5 @@
 use Rattle.std.proofs.Common.{◌≡◌, drop}
-use Rattle.grading.specs.Verdicts.{refusal_in}
+use Rattle.claims.specs.Verdicts.{refusal_in}
 use Rattle.grading.proofs.judging.find_refusal.Given as goal
 
 abbrev pub invariant-loop-answer : goal.invariant-loop-answer

@@ -1,16 +1,13 @@
-use Rattle.std.proofs.Common.{◌≡◌, ℕ, length, take, Option, sym, subst, arith}
+use Rattle.std.proofs.Common.{◌≡◌, ℕ, length, take, Option, arith}
 use Rattle.std.proofs.lemmas.List.{length-take-le}
 use Rattle.tables.specs.Held.{held, lengths}
 use Rattle.matrices.specs.declared.ConstraintMatrices.{ConstraintMatrices}
 use Rattle.matrices.specs.Writing.{lent}
 use Rattle.calls.specs.Calls.{rooms}
-use Rattle.calls.specs.Promise.{Shows}
-use Rattle.runs.specs.declared.steps.Circuit.{Circuit}
-use Rattle.runs.specs.Run.{beside, standing, log}
-use Rattle.grading.specs.declared.judging.Verdict.{Verdict}
-use Rattle.grading.specs.Verdicts.{claim_account, Said}
-use Rattle.grading.proofs.Judges.{answers_judge}
-use Rattle.grading.proofs.Said.{ok_more, has_room, said_by}
+use Rattle.runs.specs.Run.{beside}
+use Rattle.claims.specs.Verdicts.{claim_account, Said}
+use Rattle.claims.proofs.Judges.{answers_judge}
+use Rattle.grading.proofs.Said.{has_room, said_by}
 use Rattle.grading.proofs.judging.judge.Goals as goal
 
 pub read_answers-requires : goal.read_answers-requires

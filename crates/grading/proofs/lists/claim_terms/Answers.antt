@@ -1,6 +1,6 @@
 use Rattle.std.proofs.Common.{◌*◌, sym, ◌∙◌, arith}
-use Rattle.grading.specs.Grades.{windows_of, windows_terms, last_terms, terms_of}
-use Rattle.grading.proofs.Laid.{over_more, over_put, windows_long, terms_long}
+use Rattle.claims.specs.Grades.{windows_of, windows_terms, last_terms, terms_of}
+use Rattle.claims.proofs.Laid.{over_more, over_put, windows_long, terms_long}
 use Rattle.grading.proofs.lists.claim_terms.Goals as goal
 
 pub returns-clause-laid : goal.returns-clause-laid

@@ -1,7 +1,7 @@
 use Rattle.std.proofs.Common.{◌≡◌, suc, ◌+◌, ◌*◌, sym, ap, ◌∙◌, arith}
 use Rattle.matrices.specs.Writing.{over}
-use Rattle.grading.specs.Grades.{window_terms, windows_terms}
-use Rattle.grading.proofs.Laid.{over_more, over_put, windows_long}
+use Rattle.claims.specs.Grades.{window_terms, windows_terms}
+use Rattle.claims.proofs.Laid.{over_more, over_put, windows_long}
 use Rattle.grading.proofs.lists.lay_windows.Goals as goal
 
 pub loop-w-preserved : goal.loop-w-preserved

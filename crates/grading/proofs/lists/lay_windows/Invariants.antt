@@ -1,6 +1,6 @@
 use Rattle.std.proofs.Common.{◌≡◌}
 use Rattle.matrices.specs.Writing.{over}
-use Rattle.grading.specs.Grades.{windows_terms}
+use Rattle.claims.specs.Grades.{windows_terms}
 use Rattle.grading.proofs.lists.lay_windows.Given as goal
 
 abbrev pub invariant-loop-w : goal.invariant-loop-w

@@ -13,7 +13,7 @@ use Rattle.calls.specs.declared.Call.{Call as RunCall}
 use Rattle.calls.specs.declared.Answer.{Answer}
 use Rattle.calls.specs.declared.Answer.TheVariants.{Done, Named, Unsatisfied, Assigned, Written, Refused, OutOfPlace}
 use Rattle.calls.specs.Calls.{Rooms, as_call, as_answer, event_in, log_in}
-use Rattle.grading.specs.Verdicts.{refusal_in, after_accepted}
+use Rattle.claims.specs.Verdicts.{refusal_in, after_accepted}
 
 module _ {V : Type 0} where
   abbrev pub AllOk : List (Event V) → Type 0

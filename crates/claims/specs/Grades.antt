@@ -11,8 +11,8 @@ use Rattle.variables.specs.Terms.{term, once, opposite}
 use Rattle.account.specs.declared.OptimizationGoal.{OptimizationGoal}
 use Rattle.account.specs.Calls.{Call, set_optimization_goal, new_input_variable, new_witness_variable, new_lc, enforce_constraint, which_is_unsatisfied, finalize, to_matrices}
 use Rattle.calls.specs.Calls.{Rooms}
-use Rattle.grading.specs.declared.Wall.{Wall}
-use Rattle.grading.specs.declared.Claim.{Claim}
+use Rattle.claims.specs.declared.Wall.{Wall}
+use Rattle.claims.specs.declared.Claim.{Claim}
 
 -- how many windows of three readings a wall has
 abbrev pub windows_of : {V : Type 0} → Wall V → ℕ

@@ -21,12 +21,12 @@ use Rattle.account.specs.Calls as account
 use Rattle.account.specs.Calls.{Call, which_is_unsatisfied, finalize, to_matrices, Event, accepted, accepted_all, lists_in, mode_in, instance_in, witness_in, constraint_in, accepted_constraints}
 use Rattle.account.specs.Promise.{Promised}
 use Rattle.account.proofs.Worths.{worths_solve}
-use Rattle.grading.specs.declared.Wall.{Wall}
-use Rattle.grading.specs.declared.Claim.{Claim}
-use Rattle.grading.specs.Grades.{windows_of, handed, symbol, sum_of, loss_of, square_of, total_before, loss_alone, square_alone, constraining, ending, grading, reading_at, loss_at, square_at, squares_to, Judged}
-use Rattle.grading.proofs.Accepted.{AllOk, brought, calls_in, all_brought, all_append}
-use Rattle.grading.proofs.Brings.{stacked, part_of, without_readings, nothing, witnesses}
-use Rattle.grading.proofs.Wrong.{two_worth, three_worth, loss_worth, row_worth, claim_rows, rows_more, judged}
+use Rattle.claims.specs.declared.Wall.{Wall}
+use Rattle.claims.specs.declared.Claim.{Claim}
+use Rattle.claims.specs.Grades.{windows_of, handed, symbol, sum_of, loss_of, square_of, total_before, loss_alone, square_alone, constraining, ending, grading, reading_at, loss_at, square_at, squares_to, Judged}
+use Rattle.claims.proofs.Accepted.{AllOk, brought, calls_in, all_brought, all_append}
+use Rattle.claims.proofs.Brings.{stacked, part_of, without_readings, nothing, witnesses}
+use Rattle.claims.proofs.Wrong.{two_worth, three_worth, loss_worth, row_worth, claim_rows, rows_more, judged}
 
 -- how long parts of one length are together
 six_long : {X : Type 0} (g : ℕ → List X) (n : ℕ) → ((w : ℕ) → length (g w) ≡ 6) → length (stacked g n) ≡ 6 * n

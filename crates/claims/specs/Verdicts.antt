@@ -20,10 +20,9 @@ use Rattle.calls.specs.declared.Answer.{Answer}
 use Rattle.calls.specs.declared.Answer.TheVariants.{Unsatisfied, Written, Refused}
 use Rattle.calls.specs.Calls.{Rooms, as_call, log_in}
 use Rattle.calls.specs.Promise.{run_tests}
-use Rattle.grading.specs.declared.Wall.{Wall}
-use Rattle.grading.specs.declared.Claim.{Claim}
-use Rattle.grading.specs.declared.judging.Verdict.{Verdict}
-use Rattle.grading.specs.Grades.{claim_calls, Judged}
+use Rattle.claims.specs.declared.Wall.{Wall}
+use Rattle.claims.specs.declared.Claim.{Claim}
+use Rattle.claims.specs.Grades.{claim_calls, Judged}
 
 module _ {V : Type 0} where
   -- the refusal of the first call that is refused, if one is
@@ -49,11 +48,6 @@ pub record Reading : Type 0 where
   pub before : Option ℕ
   pub after : Option ℕ
   pub matrices : Option ConstraintMatrices
-
--- what a verdict says, beside the circuit; or the refusal
-abbrev pub read_by : Result Verdict Refusal → Result Reading Refusal
-read_by (Ok v) = Ok (record { before = v.before; after = v.after; matrices = v.matrices })
-read_by (Err refusal) = Err refusal
 
 -- a refusal, or else this
 abbrev pub unless_refused : {X Y : Type 0} → Result X Refusal → Y → Result Y Refusal

@@ -10,8 +10,8 @@ use Rattle.variables.specs.Terms.{term, once, opposite}
 use Rattle.variables.specs.Worth.{worth}
 use Rattle.account.specs.Rows.{Row, each, Holds, FailsFirst, FirstFailing}
 use Rattle.account.proofs.Worths.{single_worth}
-use Rattle.grading.specs.declared.Wall.{Wall}
-use Rattle.grading.specs.Grades.{windows_of, loss_at, square_at, RightSquare, RightSum, Judged}
+use Rattle.claims.specs.declared.Wall.{Wall}
+use Rattle.claims.specs.Grades.{windows_of, loss_at, square_at, RightSquare, RightSum, Judged}
 
 module _ {V : Type 0} {m : Model V} (keeps : Keeps m) where
   open m.ring use {Member, zero, one, ◌⊕◌ as add, ◌⊗◌ as mul, neg}

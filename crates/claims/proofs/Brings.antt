@@ -7,10 +7,10 @@ use Rattle.account.specs.declared.OptimizationGoal.{OptimizationGoal}
 use Rattle.account.specs.Account.{Effect, names_witness}
 use Rattle.account.specs.Calls.{Call, witness_in}
 use Rattle.std.proofs.Math.Nat.{eq-or-lt_of_le}
-use Rattle.grading.specs.declared.Wall.{Wall}
-use Rattle.grading.specs.declared.Claim.{Claim}
-use Rattle.grading.specs.Grades.{windows_of, naming, constraining, constraining_windows, ending, grading}
-use Rattle.grading.proofs.Accepted.{brought, brought_append, OpenCall}
+use Rattle.claims.specs.declared.Wall.{Wall}
+use Rattle.claims.specs.declared.Claim.{Claim}
+use Rattle.claims.specs.Grades.{windows_of, naming, constraining, constraining_windows, ending, grading}
+use Rattle.claims.proofs.Accepted.{brought, brought_append, OpenCall}
 
 -- the first n of some parts, one after the other
 module _ {X : Type 0} (g : ℕ → List X) where

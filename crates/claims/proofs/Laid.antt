@@ -12,9 +12,9 @@ use Rattle.tables.specs.Held.{put}
 use Rattle.tables.proofs.Puts.{put_long}
 use Rattle.matrices.specs.Writing.{over}
 use Rattle.calls.specs.Calls.{Rooms}
-use Rattle.grading.specs.declared.Claim.{Claim}
-use Rattle.grading.specs.declared.Wall.{Wall}
-use Rattle.grading.specs.Grades.{windows_of, handed, naming, judging, window_terms, windows_terms, last_terms, terms_of, constraining_windows, window_calls, windows_calls, last_calls, calls_over, CallsLie}
+use Rattle.claims.specs.declared.Claim.{Claim}
+use Rattle.claims.specs.declared.Wall.{Wall}
+use Rattle.claims.specs.Grades.{windows_of, handed, naming, judging, window_terms, windows_terms, last_terms, terms_of, constraining_windows, window_calls, windows_calls, last_calls, calls_over, CallsLie}
 
 module _ {X : Type 0} where
   -- nothing written

@@ -22,13 +22,13 @@ use Rattle.matrices.specs.Laws.{as_written}
 use Rattle.calls.specs.declared.Answer.{Answer}
 use Rattle.calls.specs.declared.Answer.TheVariants.{Done, Named, Unsatisfied, Assigned, Written, Refused, OutOfPlace}
 use Rattle.calls.specs.Calls.{Rooms, as_call, as_answer, log_in}
-use Rattle.grading.specs.declared.Wall.{Wall}
-use Rattle.grading.specs.declared.Claim.{Claim}
-use Rattle.grading.specs.Grades.{all_places, judging, grading, claim_calls, Judged}
-use Rattle.grading.specs.Verdicts.{from_end, row_in, counts_in, after_accepted, claim_account, Said, AnswersJudge}
-use Rattle.grading.proofs.Accepted.{AllOk, ok_append, calls_in, all_append, after_append, after_is, opens, closes, all_ok, answers_are}
-use Rattle.grading.proofs.Brings.{grading_open}
-use Rattle.grading.proofs.Stands.{four, judges, proves}
+use Rattle.claims.specs.declared.Wall.{Wall}
+use Rattle.claims.specs.declared.Claim.{Claim}
+use Rattle.claims.specs.Grades.{all_places, judging, grading, claim_calls, Judged}
+use Rattle.claims.specs.Verdicts.{from_end, row_in, counts_in, after_accepted, claim_account, Said, AnswersJudge}
+use Rattle.claims.proofs.Accepted.{AllOk, ok_append, calls_in, all_append, after_append, after_is, opens, closes, all_ok, answers_are}
+use Rattle.claims.proofs.Brings.{grading_open}
+use Rattle.claims.proofs.Stands.{four, judges, proves}
 
 -- what stands behind a list
 get_behind : {X : Type 0} (xs ys : List X) (i j : ℕ) → i ≡ length xs + j → slice_get (xs ++ ys) i ≡ slice_get ys j
