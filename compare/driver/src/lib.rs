@@ -2,6 +2,7 @@
 //! Rust and through another program, and compares the answers.
 
 pub mod circuits;
+pub mod comparison;
 pub mod fields;
 pub mod generate;
 pub mod original_side;
