@@ -14,7 +14,7 @@ use Rattle.relations.specs.declared.impl_lc.LinearCombination.{LinearCombination
 use Rattle.relations.specs.Held.{listed, spared, held, put, Changes, Becomes}
 
 module _ {V : Type 0} where
-  length_gained : (m : Model V) (k : V) (i : ℕ) (ts : List (Term V)) → length (gained m k i ts) ≡ length ts
+  pub length_gained : (m : Model V) (k : V) (i : ℕ) (ts : List (Term V)) → length (gained m k i ts) ≡ length ts
   length_gained m k i [] = refl
   length_gained m k zero (t ∷ ts) = refl
   length_gained m k (suc i) (t ∷ ts) = ap suc (length_gained m k i ts)

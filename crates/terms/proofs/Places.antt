@@ -10,7 +10,7 @@ use Rattle.variables.specs.declared.Term.{Term}
 use Rattle.variables.specs.Compact.{placed, all_placed, compactify}
 
 -- what agrees from place n on agrees from each later one on
-drop_on : {X : Type 0} (n k : ℕ) (xs ys : List X) → drop n xs ≡ drop n ys → n ≤ k → drop k xs ≡ drop k ys
+pub drop_on : {X : Type 0} (n k : ℕ) (xs ys : List X) → drop n xs ≡ drop n ys → n ≤ k → drop k xs ≡ drop k ys
 drop_on n k xs ys e le =
     let is : n + (k - n) ≡ k = omega arith in
     ap (λ j. drop j xs) (sym is) ∙ sym (drop-drop (k - n) n xs) ∙ ap (drop (k - n)) e ∙ drop-drop (k - n) n ys ∙ ap (λ j. drop j ys) is
@@ -26,7 +26,7 @@ inserted_among xs n i x lt le =
     ∙ take_at (insert front i x) last (length (front ++ last)) (omega (arith, length-insert front i x (omega arith), length-append front last))
 
 module _ {V : Type 0} (m : Model V) where
-  all_placed_push : (us ts : List (Term V)) (t : Term V) → all_placed m us (ts ++ t ∷ []) ≡ placed m t (all_placed m us ts)
+  pub all_placed_push : (us ts : List (Term V)) (t : Term V) → all_placed m us (ts ++ t ∷ []) ≡ placed m t (all_placed m us ts)
   all_placed_push us [] t = refl
   all_placed_push us (u ∷ ts) t = all_placed_push (placed m u us) ts t
 

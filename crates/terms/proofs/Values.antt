@@ -14,10 +14,10 @@ module _ {V : Type 0} (ts : List (Term V)) (i : ℕ) where
   here : (t : Term V) → i < length ts → t ≡ get_or ts i t → drop i ts ≡ t ∷ drop (i + 1) ts
   here t lt is = drop_more ts i t lt ∙ ap (λ x. x ∷ drop (i + 1) ts) (sym is)
 
-  first_here : (v : Variable) (t : Term V) → i < length ts → t ≡ get_or ts i t → first_is v (drop i ts) ≡ equal t.variable v
+  pub first_here : (v : Variable) (t : Term V) → i < length ts → t ≡ get_or ts i t → first_is v (drop i ts) ≡ equal t.variable v
   first_here v t lt is = ap (first_is v) (here t lt is)
 
-  first_past : (v : Variable) → length ts ≤ i → first_is v (drop i ts) ≡ false
+  pub first_past : (v : Variable) → length ts ≤ i → first_is v (drop i ts) ≡ false
   first_past v le = ap (first_is v) (drop_all i ts le)
 
   -- what `get` lends, asked for its variable

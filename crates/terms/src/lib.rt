@@ -82,6 +82,7 @@ pub fn gain<F: Field>(terms: &mut [Term<F>], at: usize, number: F)
 }
 
 // The term stands at `at`, those from there on move up, and the last is lost.
+#[tactic(auto, using(crate::proofs::Edits::inserted))]
 pub fn insert<F: Field>(terms: &mut [Term<F>], at: usize, term: Term<F>)
     requires { at < length terms.old }
     ensures { terms.new ≡ take (length terms.old) (insert terms.old at term) }
